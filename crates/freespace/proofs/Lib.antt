@@ -1,0 +1,2 @@
+mod BitLaws
+pub mod Counts
