@@ -1,0 +1,5 @@
+pub mod Fresh
+pub mod Labels
+pub mod Over
+pub mod Writes
+pub mod Formats
