@@ -1,0 +1,5 @@
+pub mod Units
+pub mod Checks
+pub mod Parts
+pub mod Serves
+pub mod Exchanges
