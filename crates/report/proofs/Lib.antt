@@ -1,0 +1,2 @@
+pub mod BaseTen
+pub mod Pieces

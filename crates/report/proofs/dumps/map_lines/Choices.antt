@@ -1,0 +1,10 @@
+use mathlib.Core.Path.{_≡_}
+use mathlib.Core.List.{map}
+use Rattle.std.specs.Iters.{counting}
+use Rattle.std.specs.Of.String.{string-bytes}
+use Rattle.std.specs.Written.{joined}
+use Rattle.report.specs.Text.{map-line-of}
+use Rattle.report.proofs.dumps.map_lines.Given as given
+
+abbrev pub Inv-loop-k : given.InvT-loop-k
+Inv-loop-k l = string-bytes (l .text) ≡ joined (map (map-line-of (l .map)) (counting 0 (l .k)))
