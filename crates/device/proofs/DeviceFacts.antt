@@ -1,10 +1,17 @@
 -- What a caller of a device learns where nothing refuses.
-use Rattle.std.proofs.Common.{◌≡◌, ℕ, ◌<◌, false, length, get_or, Ok}
-use Rattle.std.proofs.lemmas.Bool.{lt-ltb}
-use Rattle.device.specs.Device.{Medium, blank, fetched, stored}
+use Rattle.std.proofs.Common.{◌≡◌, ℕ, ◌<◌, ◌≤◌, false, length, get_or, Ok, Err}
+use Rattle.std.proofs.lemmas.Bool.{lt-ltb, le-ltb}
+use Rattle.device.specs.declared.fault.Code.TheVariants.{InvalidOperation}
+use Rattle.device.specs.Device.{Medium, blank, device_fault, fetched, stored}
 
 pub fetched_ok : (m : Medium) (n : ℕ) → n < length m.sectors → m.door ≡ false → fetched m n ≡ Ok (get_or m.sectors n blank)
 fetched_ok m n h d = let t = lt-ltb n (length m.sectors) h in simp (t, d)
 
 pub stored_ok : (m : Medium) (n : ℕ) → n < length m.sectors → m.door ≡ false → m.tab ≡ false → stored m n ≡ Ok tt
 stored_ok m n h d t = let l = lt-ltb n (length m.sectors) h in simp (l, d, t)
+
+pub fetched_past : (m : Medium) (n : ℕ) → length m.sectors ≤ n → fetched m n ≡ Err (device_fault InvalidOperation)
+fetched_past m n h = let t = le-ltb n (length m.sectors) h in simp t
+
+pub stored_past : (m : Medium) (n : ℕ) → length m.sectors ≤ n → stored m n ≡ Err (device_fault InvalidOperation)
+stored_past m n h = let t = le-ltb n (length m.sectors) h in simp t

@@ -13,11 +13,9 @@ use Rattle.device.proofs.DeviceFacts.{fetched_ok, stored_ok}
 
 module _ (a b : List Sector) where
   pub length_joined : length (joined_sectors a b) ≡ min 65535 (length a + length b)
-  unfolding joined_sectors
   length_joined = length-take 65535 (a ++ b) ∙ ap (min 65535) (length-append a b)
 
   pub whole_joined : All WellFormed a → All WellFormed b → All WellFormed (joined_sectors a b)
-  unfolding joined_sectors
   whole_joined p q = All-take WellFormed 65535 (a ++ b) (All-append WellFormed a b p q)
 
   module _ (n : ℕ) (within : n < length (joined_sectors a b)) where
@@ -25,19 +23,15 @@ module _ (a b : List Sector) where
     below = omega (arith, length_joined)
 
     getD_first : n < length a → get_or (joined_sectors a b) n blank ≡ get_or a n blank
-    unfolding joined_sectors
     getD_first h = get_or-take 65535 (a ++ b) n blank below ∙ get_or_append_left a b blank n h
 
     getD_second : length a ≤ n → get_or (joined_sectors a b) n blank ≡ get_or b (n - length a) blank
-    unfolding joined_sectors
     getD_second h = get_or-take 65535 (a ++ b) n blank below ∙ get_or-append_right a b (length a) n blank refl h
 
     set_first : (s : Sector) → n < length a → joined_sectors (set a n s) b ≡ set (joined_sectors a b) n s
-    unfolding joined_sectors
     set_first s h = ap (take 65535) (sym (set-append_left a b n s h)) ∙ take-set-lt 65535 (a ++ b) n s below
 
     set_second : (s : Sector) → length a ≤ n → joined_sectors a (set b (n - length a) s) ≡ set (joined_sectors a b) n s
-    unfolding joined_sectors
     set_second s h = ap (take 65535) (sym (set-append_right a b (length a) n s refl h)) ∙ take-set-lt 65535 (a ++ b) n s below
 
 -- both parts before and after a write of sector n

@@ -1,7 +1,6 @@
 -- What a skew does to the sectors of a device.
 use Rattle.std.proofs.Common.{◌≡◌, ℕ, zero, suc, ◌+◌, ◌*◌, ◌/◌, ◌%◌, ◌<◌, ◌≤◌, Bool, true, false, cond, not, eqb, ltb, leb, List, [], ◌∷◌, length, get_or, set, sym, refl, ap, ◌∙◌, subst, ⊎_elim, arith}
 use Rattle.std.specs.List.{list_all, AllByRecursion as All}
-use Rattle.std.specs.Map.Invariant.{is-distinct}
 use Rattle.std.proofs.lemmas.List.FromFn.{length-map-range_with_len, get_or-map-range_with_len}
 use Rattle.std.proofs.ByRecursion.{All-get_or, All-from_get_or, Decides-by_and}
 use Rattle.std.proofs.lemmas.List.{length-set, get_or-set_same, get_or-set_other, ext_get_or}
@@ -9,22 +8,22 @@ use Rattle.std.proofs.lemmas.Bool.{and_parts, cases_order, cases_lt, cases_eq, c
 use Rattle.std.proofs.lemmas.Bool.Decides.{Decides-eqb, Decides-not}
 use Rattle.device.specs.declared.sector.Sector.{Sector}
 use Rattle.device.specs.Device.{Medium, blank, WellFormed, fetched, stored, wrote}
-use Rattle.device.specs.Skew.{StandsFor, is_permutation, places, skewed, skewed_medium}
+use Rattle.device.specs.Skew.{StandsFor, all_distinct, is_permutation, places, skewed, skewed_medium}
 
 -- two places of a list without repeats hold two numbers
-apart : (ps : List ℕ) (i j : ℕ) → is-distinct eqb ps ≡ true → i < j → j < length ps → get_or ps i 0 ≡ get_or ps j 0 → ⊥
+apart : (ps : List ℕ) (i j : ℕ) → all_distinct ps ≡ true → i < j → j < length ps → get_or ps i 0 ≡ get_or ps j 0 → ⊥
 apart [] i j t l h e = omega arith
 apart (p ∷ ps) zero zero t l h e = omega arith
 apart (p ∷ ps) zero (suc j) t l h e =
-    let each = (Decides-by_and (λ y. not (eqb p y)) (λ y. p ≡ y → ⊥) (list_all (λ y. not (eqb p y))) (λ y. Decides-not (eqb p y) (Decides-eqb p y)) refl (λ _ _. refl) ps).0 (and_parts (list_all (λ y. not (eqb p y)) ps) (is-distinct eqb ps) t).0 in
+    let each = (Decides-by_and (λ y. not (eqb p y)) (λ y. p ≡ y → ⊥) (list_all (λ y. not (eqb p y))) (λ y. Decides-not (eqb p y) (Decides-eqb p y)) refl (λ _ _. refl) ps).0 (and_parts (list_all (λ y. not (eqb p y)) ps) (all_distinct ps) t).0 in
     All-get_or (λ y. p ≡ y → ⊥) ps j 0 (omega arith) each e
 apart (p ∷ ps) (suc i) zero t l h e = omega arith
-apart (p ∷ ps) (suc i) (suc j) t l h e = apart ps i j (and_parts (list_all (λ y. not (eqb p y)) ps) (is-distinct eqb ps) t).1 (omega arith) (omega arith) e
+apart (p ∷ ps) (suc i) (suc j) t l h e = apart ps i j (and_parts (list_all (λ y. not (eqb p y)) ps) (all_distinct ps) t).1 (omega arith) (omega arith) e
 
 -- what the test of a table says at each two entries
 pub only_once : (ps : List ℕ) → is_permutation ps ≡ true → (i j : ℕ) → i < length ps → j < length ps → get_or ps i 0 ≡ get_or ps j 0 → i ≡ j
 only_once ps t i j p q e =
-    let d = (and_parts (list_all (λ p. ltb p (length ps)) ps) (is-distinct eqb ps) t).1 in
+    let d = (and_parts (list_all (λ p. ltb p (length ps)) ps) (all_distinct ps) t).1 in
     ⊎_elim (λ (h : i ≡ j). h)
     (⊎_elim (λ (h : i < j). absurd (apart ps i j d h q e)) (λ (h : j < i). absurd (apart ps j i d h p (sym e))))
     (cases_order i j)

@@ -25,7 +25,7 @@ abbrev pub frames : List ℕ → List Sector
 frames bs = map (frame bs) (range_with_len 0 (frame_count bs))
 
 abbrev pub flat : List ℕ → Bool → Bool → Medium
-flat bs d t = record { sectors = frames bs; door = d; tab = t }
+flat bs d t = record { sectors = map (frame bs) (range_with_len 0 (frame_count bs)); door = d; tab = t }
 
 abbrev pub flat_medium : FlatImage → Medium
 flat_medium d = flat (vec_items d.bytes) d.door d.tab

@@ -6,7 +6,7 @@ ghost use Rattle.device.specs.Flat.{flat_medium, reader_medium, frame_count, wit
 
 use crate::fault::{Code, Fault, device_fault};
 use crate::flat_reader::FlatReader;
-use crate::frame::{count_frames, frame_at, put_frame};
+use crate::frame::{count_sectors, put_frame, sector_in};
 use crate::reading::{ReadingDevice, WritingDevice};
 use crate::sector::Sector;
 
@@ -57,7 +57,7 @@ impl FlatImage {
         requires { n < frame_count self.now.bytes.items }
         ensures { result ≡ slice_index_or (flat_medium self.now).sectors n blank }
     {
-        frame_at(self.bytes.as_slice(), n)
+        sector_in(self.bytes.as_slice(), n)
     }
 
     fn put_sector(&mut self, n: u16, sector: &Sector)
@@ -78,7 +78,7 @@ impl ReadingDevice for FlatImage {
         ensures whole { All WellFormed (flat_medium self.now).sectors }
         ensures frames { result ≡ frame_count self.now.bytes.items }
     {
-        count_frames(self.bytes.as_slice())
+        count_sectors(self.bytes.as_slice())
     }
 
     fn door_open(&self) -> bool {

@@ -3,7 +3,7 @@ ghost use Rattle.std.specs.Prelude.{◌≡◌};
 ghost use Rattle.device.specs.Flat.{reader_medium};
 
 use crate::fault::{Code, Fault, device_fault};
-use crate::frame::{count_frames, frame_at};
+use crate::frame::{count_sectors, sector_in};
 use crate::reading::ReadingDevice;
 use crate::sector::Sector;
 
@@ -25,7 +25,7 @@ impl<'a> ReadingDevice for FlatReader<'a> {
     ghost medium = { reader_medium };
 
     fn count(&self) -> u16 {
-        count_frames(self.bytes)
+        count_sectors(self.bytes)
     }
 
     fn door_open(&self) -> bool {
@@ -33,9 +33,9 @@ impl<'a> ReadingDevice for FlatReader<'a> {
     }
 
     fn read(&mut self, n: u16) -> Result<Sector, Fault> {
-        if n >= count_frames(self.bytes) {
+        if n >= count_sectors(self.bytes) {
             return Err(device_fault(Code::InvalidOperation));
         }
-        Ok(frame_at(self.bytes, n))
+        Ok(sector_in(self.bytes, n))
     }
 }

@@ -3,31 +3,40 @@ ghost use Rattle.std.specs.Prelude.{◌≡◌, ◌+◌, ◌*◌, ◌^◌, ◌<�
 ghost use Rattle.std.proofs.Math.Seq.{paste};
 ghost use Rattle.std.specs.List.{AllByRecursion as All};
 ghost use Rattle.device.specs.Device.{WellFormed, blank};
-ghost use Rattle.device.specs.Flat.{frames, frame_count, with_frame};
+ghost use Rattle.device.specs.Flat.{frame, frames, frame_count, with_frame};
 
 use crate::sector::Sector;
 
 // As many as are whole, at most 65,535.
-fn whole_frames(bytes: &[u8]) -> u16
+pub(crate) fn count_frames(bytes: &[u8]) -> u16
     ensures { result ≡ frame_count bytes.now }
 {
     let whole = bytes.len() / 132;
     if whole < 65535 { whole as u16 } else { 65535 }
 }
 
-pub(crate) fn count_frames(bytes: &[u8]) -> u16
+// As many sectors as the frames make.
+pub(crate) fn count_sectors(bytes: &[u8]) -> u16
     ensures count { result ≡ frame_count bytes.now }
     ensures value { result ≡ length (frames bytes.now) }
     ensures whole { All WellFormed (frames bytes.now) }
 {
-    whole_frames(bytes)
+    count_frames(bytes)
 }
 
-pub(crate) fn frame_at(bytes: &[u8], n: u16) -> Sector
+// Sector n of those.
+pub(crate) fn sector_in(bytes: &[u8], n: u16) -> Sector
     requires { n < frame_count bytes.now }
     ensures { result ≡ slice_index_or (frames bytes.now) n blank }
 {
-    let start = 132 * n as usize;
+    frame_at(bytes, n as usize)
+}
+
+pub(crate) fn frame_at(bytes: &[u8], n: usize) -> Sector
+    requires { 132 * n + 132 ≤ length bytes.now }
+    ensures { result ≡ frame bytes.now n }
+{
+    let start = 132 * n;
     let mut data = [0; 128];
     data.copy_from_slice(&bytes[start..start + 128]);
     let back = u16::from_le_bytes([bytes[start + 128], bytes[start + 129]]);

@@ -8,6 +8,6 @@ returns c =
     let xs = c.args.data.now in
     let start = c.args.start in
     record {
-      after = put_mid-paste start (start + length xs - start) c.args.bytes.now _ xs (length xs) c.copy-from-slice.ensures.after (omega arith) refl;
-      small = All-from_get_or (λ b. b < 2 ^ 8) xs 0 (λ i h. (c.type-inv.data i).fits);
+      after = put_mid-paste start (start + length xs - start) c.args.bytes.now _ xs (length xs) c.copy_from_slice.ensures.after (omega arith) refl;
+      small = All-from_get_or (λ b. b < 2 ^ 8) xs 0 (λ i h. (c.type_inv.data i).fits);
     }

@@ -6,6 +6,6 @@ pub returns : goal.returns
 returns c =
     let self = c.args.self.now in
     record {
-      after = flat_with self.bytes.items _ self.door self.tab c.args.n c.args.sector.now c.requires c.put-frame.ensures.whole (search (rules, filled));
+      after = flat_with self.bytes.items _ self.door self.tab c.args.n c.args.sector.now c.requires c.put_frame.ensures.whole (search (rules, filled));
       bytes = search (rules, filled);
     }
