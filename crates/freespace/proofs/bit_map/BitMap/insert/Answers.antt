@@ -4,24 +4,21 @@ use Rattle.freespace.proofs.BitLaws.{bits_set}
 use Rattle.freespace.proofs.Counts.{counted_le, counted_added, changed_below}
 use Rattle.freespace.proofs.bit_map.BitMap.insert.Goals as goal
 
-pub overflow-add-self : goal.overflow-add-self
-overflow-add-self c = let k = c.args.self.now in omega (arith, k.tally, k.small, counted_le (bit_of k.bits) k.sectors)
+pub overflow_add-self : goal.overflow_add-self
+overflow_add-self c = let k = c.args.self.now in omega (arith, k.tally, k.small, counted_le (bit_of k.bits) k.sectors)
 
-pub invariant-of-self : goal.invariant-of-self
-invariant-of-self c =
+pub invariant_of-self : goal.invariant_of-self
+invariant_of-self c =
     let k = c.args.self.now in
     let n = c.args.n in
-    let b = c.with-bit.result in
+    let b = c.with_bit.result in
     let at : n / 8 < length k.bits = omega (arith, k.long, k.small) in
-    let is = bits_set k.bits n b true at c.with-bit.ensures in
+    let is = bits_set k.bits n b true at c.with_bit.ensures in
     let old = bit_of k.bits in
-    let new = bit_of (set k.bits (n / 8) b) in (
-      length-set k.bits (n / 8) b ∙ k.long,
-      (
-        k.small,
-        (
-          changed_below old new n true is k.sectors c.requires.0 k.below,
-          (omega (arith, k.tally, counted_added old new n k.sectors is c.requires.0 c.requires.1), tt),
-        ),
-      ),
-    )
+    let new = bit_of (set k.bits (n / 8) b) in 
+    record {
+      long = length-set k.bits (n / 8) b ∙ k.long;
+      small = k.small;
+      below = changed_below old new n true is k.sectors c.requires.0 k.below;
+      tally = omega (arith, k.tally, counted_added old new n k.sectors is c.requires.0 c.requires.1);
+    }

@@ -4,29 +4,26 @@ use Rattle.freespace.proofs.Counts.{counted_removed, changed_below}
 use Rattle.freespace.proofs.BitLaws.{bits_set}
 use Rattle.freespace.proofs.bit_map.BitMap.remove.Goals as goal
 
-pub overflow-sub-self : goal.overflow-sub-self
-overflow-sub-self c =
+pub overflow_sub-self : goal.overflow_sub-self
+overflow_sub-self c =
     let k = c.args.self.now in
     let n = c.args.n in
     let old = bit_of k.bits in
     omega (arith, k.tally, counted_removed old (λ m. cond (eqb m n) false (old m)) n k.sectors (λ m. refl) (k.below n c.requires) c.requires)
 
-pub invariant-of-self : goal.invariant-of-self
-invariant-of-self c =
+pub invariant_of-self : goal.invariant_of-self
+invariant_of-self c =
     let k = c.args.self.now in
     let n = c.args.n in
-    let b = c.without-bit.result in
+    let b = c.without_bit.result in
     let in' = k.below n c.requires in
     let at : n / 8 < length k.bits = omega (arith, k.long, k.small) in
-    let is = bits_set k.bits n b false at c.without-bit.ensures in
+    let is = bits_set k.bits n b false at c.without_bit.ensures in
     let old = bit_of k.bits in
-    let new = bit_of (set k.bits (n / 8) b) in (
-      length-set k.bits (n / 8) b ∙ k.long,
-      (
-        k.small,
-        (
-          changed_below old new n false is k.sectors in' k.below,
-          (omega (arith, k.tally, counted_removed old new n k.sectors is in' c.requires), tt),
-        ),
-      ),
-    )
+    let new = bit_of (set k.bits (n / 8) b) in 
+    record {
+      long = length-set k.bits (n / 8) b ∙ k.long;
+      small = k.small;
+      below = changed_below old new n false is k.sectors in' k.below;
+      tally = omega (arith, k.tally, counted_removed old new n k.sectors is in' c.requires);
+    }

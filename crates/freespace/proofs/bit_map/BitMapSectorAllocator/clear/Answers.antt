@@ -4,16 +4,13 @@ use Rattle.freespace.specs.Bits.{bit_of}
 use Rattle.freespace.proofs.Counts.{counted_none}
 use Rattle.freespace.proofs.bit_map.BitMapSectorAllocator.clear.Goals as goal
 
-pub invariant-of-self : goal.invariant-of-self
-invariant-of-self c =
-    let bits = c.no-bytes-self.result in
-    let off = c.no-bytes-self.ensures.empty in (
-      c.no-bytes-self.ensures.long,
-      (
-        omega arith,
-        (
-          (λ n on. absurd (both_ways (bit_of bits n) (off n) on)),
-          (sym (counted_none (bit_of bits) c.args.sectors off), tt),
-        ),
-      ),
-    )
+pub invariant_of-self : goal.invariant_of-self
+invariant_of-self c =
+    let bits = c.no_bytes-self.result in
+    let off = c.no_bytes-self.ensures.empty in 
+    record {
+      long = c.no_bytes-self.ensures.long;
+      small = omega arith;
+      below = λ n on. absurd (both_ways (bit_of bits n) (off n) on);
+      tally = sym (counted_none (bit_of bits) c.args.sectors off);
+    }

@@ -4,11 +4,11 @@ use Rattle.freespace.proofs.Counts.{counted_le, counted_added}
 use Rattle.freespace.proofs.LinkLaws.{Chained, Changed, linked_in}
 use Rattle.freespace.proofs.free_list.FreeList.link_after.Goals as goal
 
-pub overflow-add-self-3 : goal.overflow-add-self-3
-overflow-add-self-3 c = let k = c.args.self.now in omega (arith, k.tally, k.small, counted_le (linked k.next) k.sectors)
+pub overflow_add-self-3 : goal.overflow_add-self-3
+overflow_add-self-3 c = let k = c.args.self.now in omega (arith, k.tally, k.small, counted_le (linked k.next) k.sectors)
 
-pub invariant-of-self : goal.invariant-of-self
-invariant-of-self c =
+pub invariant_of-self : goal.invariant_of-self
+invariant_of-self c =
     let k = c.args.self.now in
     let p = c.args.before in
     let n = c.args.n in
@@ -16,28 +16,14 @@ invariant-of-self c =
     let done = linked_in k.next k.sectors chain (omega (arith, k.long, k.small)) p n c.requires.0 c.requires.1 in
     let ch = done.chain in
     let mid = set k.next (n + 1) (link k.next p) in
-    let new = set mid p (n + 1) in (
-      length-set mid p (n + 1) ∙ length-set k.next (n + 1) (link k.next p) ∙ k.long,
-      (
-        k.small,
-        (
-          ch.head,
-          (
-            ch.ascends,
-            (
-              ch.within,
-              (
-                ch.leads,
-                (
-                  ch.passes,
-                  (
-                    omega (arith, k.tally, counted_added (linked k.next) (linked new) n k.sectors done.is (omega (arith, c.requires.1, k.within p)) done.was),
-                    tt,
-                  ),
-                ),
-              ),
-            ),
-          ),
-        ),
-      ),
-    )
+    let new = set mid p (n + 1) in 
+    record {
+      long = length-set mid p (n + 1) ∙ length-set k.next (n + 1) (link k.next p) ∙ k.long;
+      small = k.small;
+      head = ch.head;
+      ascends = ch.ascends;
+      within = ch.within;
+      leads = ch.leads;
+      passes = ch.passes;
+      tally = omega (arith, k.tally, counted_added (linked k.next) (linked new) n k.sectors done.is (omega (arith, c.requires.1, k.within p)) done.was);
+    }

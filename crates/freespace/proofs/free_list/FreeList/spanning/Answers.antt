@@ -4,23 +4,21 @@ use Rattle.freespace.proofs.Counts.{counted_none}
 use Rattle.freespace.proofs.LinkLaws.{chained_none}
 use Rattle.freespace.proofs.free_list.FreeList.spanning.Goals as goal
 
-pub invariant-of-result : goal.invariant-of-result
-invariant-of-result c =
+pub invariant_of-result : goal.invariant_of-result
+invariant_of-result c =
     let s = c.args.sectors in
-    let none = c.no-links-next.result in
-    let long = c.no-links-next.ensures.long in
+    let none = c.no_links-next.result in
+    let long = c.no_links-next.ensures.long in
     let next = set none 0 (s + 1) in
-    let rest : (p : ℕ) → (p ≡ 0 → ⊥) → link next p ≡ 0 = λ p ne. get_or-set_other none 0 p (s + 1) 0 ne ∙ c.no-links-next.ensures.empty p in
-    let ch = chained_none (link next) s (get_or-set_same none 0 (s + 1) 0 (omega arith)) rest in (
-      length-set none 0 (s + 1) ∙ long,
-      (
-        c.requires,
-        (
-          ch.head,
-          (
-            ch.ascends,
-            (ch.within, (ch.leads, (ch.passes, (sym (counted_none (linked next) s (λ n. ap (ltb 0) (rest (n + 1) (λ e. omega arith)))), tt)))),
-          ),
-        ),
-      ),
-    )
+    let rest : (p : ℕ) → (p ≡ 0 → ⊥) → link next p ≡ 0 = λ p ne. get_or-set_other none 0 p (s + 1) 0 ne ∙ c.no_links-next.ensures.empty p in
+    let ch = chained_none (link next) s (get_or-set_same none 0 (s + 1) 0 (omega arith)) rest in 
+    record {
+      long = length-set none 0 (s + 1) ∙ long;
+      small = c.requires;
+      head = ch.head;
+      ascends = ch.ascends;
+      within = ch.within;
+      leads = ch.leads;
+      passes = ch.passes;
+      tally = sym (counted_none (linked next) s (λ n. ap (ltb 0) (rest (n + 1) (λ e. omega arith))));
+    }

@@ -21,24 +21,25 @@ module _ (k : FreeList) (p : ℕ) (on : 0 < link k.next p) (in' : link k.next p 
       k.tally
       ∙ counted_removed (linked k.next) (linked (after k.next p)) (link k.next p - 1) k.sectors done.is (omega arith) done.was
 
-pub overflow-sub-self : goal.overflow-sub-self
-overflow-sub-self c = omega (arith, tallied c.args.self.now c.args.before c.requires.0 c.requires.1)
+pub overflow_sub-self : goal.overflow_sub-self
+overflow_sub-self c = omega (arith, tallied c.args.self.now c.args.before c.requires.0 c.requires.1)
 
-pub invariant-of-self : goal.invariant-of-self
-invariant-of-self c =
+pub invariant_of-self : goal.invariant_of-self
+invariant_of-self c =
     let k = c.args.self.now in
     let p = c.args.before in
     let ch = (done k p c.requires.0 c.requires.1).chain in
-    let mid = set k.next p (link k.next (link k.next p)) in (
-      length-set mid (link k.next p) 0 ∙ length-set k.next p (link k.next (link k.next p)) ∙ k.long,
-      (
-        k.small,
-        (
-          ch.head,
-          (ch.ascends, (ch.within, (ch.leads, (ch.passes, (omega (arith, tallied k p c.requires.0 c.requires.1), tt))))),
-        ),
-      ),
-    )
+    let mid = set k.next p (link k.next (link k.next p)) in 
+    record {
+      long = length-set mid (link k.next p) 0 ∙ length-set k.next p (link k.next (link k.next p)) ∙ k.long;
+      small = k.small;
+      head = ch.head;
+      ascends = ch.ascends;
+      within = ch.within;
+      leads = ch.leads;
+      passes = ch.passes;
+      tally = omega (arith, tallied k p c.requires.0 c.requires.1);
+    }
 
 pub returns : goal.returns
 returns c =
