@@ -14,8 +14,10 @@ pub struct Name {
 }
 
 impl Name {
+    ghost use Rattle.chains.specs.NameBytes.{name_bytes};
+
     pub fn empty() -> Name
-        ensures { take result.size result.bytes ≡ [] }
+        ensures { name_bytes result ≡ [] }
     {
         Name {
             bytes: [0; 32],

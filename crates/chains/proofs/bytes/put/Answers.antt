@@ -11,6 +11,6 @@ returns c =
     record {
       next = refl;
       text = λ n before a w b.
-          subst (λ (ys : List ℕ). put_mid c.args.at k c.args.bytes.now ys ≡ padded n (before ++ part)) (sym c.copy-from-slice.ensures.after)
+          subst (λ (ys : List ℕ). put_mid c.args.at k c.args.bytes.now ys ≡ padded n (before ++ part)) (sym c.copy_from_slice.ensures.after)
           (put_text n before part c.args.bytes.now c.args.at k a (omega arith) (omega arith) b);
     }

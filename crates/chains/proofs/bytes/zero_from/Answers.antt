@@ -4,4 +4,4 @@ use Rattle.chains.specs.Reading.{zeros}
 use Rattle.chains.proofs.bytes.zero_from.Goals as goal
 
 pub returns : goal.returns
-returns c = c.all-zero.ensures ∙ ap zeros (take_rest c.args.bytes.now c.args.i)
+returns c = c.all_zero.ensures ∙ ap zeros (take_rest c.args.bytes.now c.args.i)

@@ -12,13 +12,13 @@ fetch-requires g c =
     let ready : Readable _ = subst Readable (sym same) c.requires.ready in
     record { within = omega (arith, ready.long); ready = ready }
 
-pub returns-then-not-is-directory-frame : goal.returns-then-not-is-directory-frame
-returns-then-not-is-directory-frame g c =
+pub returns-then-not-is_directory_frame : goal.returns-then-not-is_directory_frame
+returns-then-not-is_directory_frame g c =
     let ss : Disk = (g.D.ReadingDevice.medium c.args.device.now).sectors in
     record {
       value =
           ap (λ (f : Fault). Err f) c.structure_fault.ensures
-          ∙ directory_more ss _ (ap (λ (m : Medium). m.sectors) c.loop-i.invariant.0) 32 c.loop-i.i _ (omega arith) _ _ c.in-ok-sector.ensures.value c.if-not-is-directory-frame.ensures c.loop-i.invariant.1;
+          ∙ directory_more ss _ (ap (λ (m : Medium). m.sectors) c.loop-i.invariant.0) 32 c.loop-i.i _ (omega arith) _ _ c.in_ok-sector.ensures.value c.if-not-is_directory_frame.ensures c.loop-i.invariant.1;
       same = c.fetch.ensures.same ∙ c.loop-i.invariant.0;
     }
 
@@ -26,7 +26,7 @@ pub loop-i-preserved : goal.loop-i-preserved
 loop-i-preserved g c =
     let ss : Disk = (g.D.ReadingDevice.medium c.args.device.now).sectors in (
       c.fetch.ensures.same ∙ c.loop-i.invariant.0,
-      directory_more ss _ (ap (λ (m : Medium). m.sectors) c.loop-i.invariant.0) 32 c.loop-i.i _ (omega arith) _ _ c.in-ok-sector.ensures.value c.if-not-is-directory-frame.ensures c.loop-i.invariant.1,
+      directory_more ss _ (ap (λ (m : Medium). m.sectors) c.loop-i.invariant.0) 32 c.loop-i.i _ (omega arith) _ _ c.in_ok-sector.ensures.value c.if-not-is_directory_frame.ensures c.loop-i.invariant.1,
     )
 
 pub returns : goal.returns

@@ -3,10 +3,10 @@ use Rattle.chains.specs.Descriptors.{descriptor_read}
 use Rattle.chains.proofs.LaidOut.{descriptor_shown}
 use Rattle.chains.proofs.descriptor.read_descriptor.Goals as goal
 
-pub returns-in-err-sector : goal.returns-in-err-sector
-returns-in-err-sector g c =
+pub returns-in_err-sector : goal.returns-in_err-sector
+returns-in_err-sector g c =
     let m = g.D.ReadingDevice.medium c.args.device.now in
-    let value : c.from-residual.result ≡ descriptor_read m c.args.at = search rules in
+    let value : c.from_residual.result ≡ descriptor_read m c.args.at = search rules in
     record {
       same = c.read.ensures.same;
       value = value;
@@ -16,7 +16,7 @@ returns-in-err-sector g c =
 pub returns : goal.returns
 returns g c =
     let m = g.D.ReadingDevice.medium c.args.device.now in
-    let value : Ok c.parse-descriptor.result ≡ descriptor_read m c.args.at = search rules in
+    let value : Ok c.parse_descriptor.result ≡ descriptor_read m c.args.at = search rules in
     record {
       same = c.read.ensures.same;
       value = value;

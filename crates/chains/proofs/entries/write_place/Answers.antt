@@ -7,11 +7,11 @@ returns g c =
     let m = g.D.ReadingDevice.medium c.args.device.now in
     let read = g.D.ReadingDevice.medium c.read.new.self in
     let p = c.args.p in
-    let start = c.place-start-start.result in
-    let s = c.in-ok-sector.sector in
+    let start = c.place_start-start.result in
+    let s = c.in_ok-sector.sector in
     record {
       value = stored_alike m read (4 + p / 3) c.write.result c.read.ensures.same c.write.ensures.value;
       after =
-          written_back m read _ p s _ c.args.bytes.now c.write.result c.read.ensures.same c.in-ok-sector.ensures.value
-          (part_replaced s p start (start + 40 - start) c.args.bytes.now c.copy-from-slice.new.self c.place-start-start.ensures (omega arith) c.copy-from-slice.ensures.after) c.write.ensures.after;
+          written_back m read _ p s _ c.args.bytes.now c.write.result c.read.ensures.same c.in_ok-sector.ensures.value
+          (part_replaced s p start (start + 40 - start) c.args.bytes.now c.copy_from_slice.new.self c.place_start-start.ensures (omega arith) c.copy_from_slice.ensures.after) c.write.ensures.after;
     }

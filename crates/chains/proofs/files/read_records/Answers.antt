@@ -14,7 +14,7 @@ returns g c =
     let ss : Disk = (g.D.ReadingDevice.medium c.args.device.now).sectors in
     let s : Seen = seen_of c.args.scan.now in
     let name = name_bytes c.args.place.now.name in
-    let done = records_done ss c.args.place.now.at name s c.args.descriptor.now _ _ _ c.in-ok-end.end (bit_of c.walk.new.met.bits) c.requires.there c.word-at-count.ensures c.word-at.ensures c.in-ok-end.ensures.walks c.if-word-at-last-field-of.false c.last-field-of.ensures in
+    let done = records_done ss c.args.place.now.at name s c.args.descriptor.now _ _ _ c.in_ok-end.end (bit_of c.walk.new.met.bits) c.requires.there c.word_at-count.ensures c.word_at.ensures c.in_ok-end.ensures.walks c.if-word_at-last_field_of.false c.last_field_of.ensures in
     record {
       scans =
           subst (λ (x : Result Seen Fault). Scans x (Ok tt) (record { met = c.walk.new.met; names = c.push.new.self })) (sym done)

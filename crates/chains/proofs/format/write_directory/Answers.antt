@@ -4,19 +4,19 @@ use Rattle.chains.specs.Fresh.{empty_directory_sector_at, empty_directory, writt
 use Rattle.chains.proofs.Writes.{WrittenFrom, one_more, refused}
 use Rattle.chains.proofs.format.write_directory.Goals as goal
 
-pub returns-in-err-write : goal.returns-in-err-write
-returns-in-err-write g c =
+pub returns-in_err-write : goal.returns-in_err-write
+returns-in_err-write g c =
     let m = g.D.ReadingDevice.medium c.args.device.now in
-    let p = err_from_is_err_and {Q = λ e. e ≡ c.in-err-write.field-0.0} c.from-residual.result c.from-residual.ensures.1 in
+    let p = err_from_is_err_and {Q = λ e. e ≡ c.in_err-write.field-0.0} c.from_residual.result c.from_residual.ensures.1 in
     let r = refused empty_directory_sector_at 32 c.loop-i.i m _ _ _ c.empty_directory_sector.result c.write.result (omega arith) c.write.ensures.value c.write.ensures.after c.loop-i.invariant
-    _ _ c.from-residual.result c.in-err-write.was p.1 p.2 in
+    _ _ c.from_residual.result c.in_err-write.was p.1 p.2 in
     record { value = r.0; after = r.1 (written_over empty_directory m) }
 
 pub loop-i-preserved : goal.loop-i-preserved
 loop-i-preserved g c =
     let m = g.D.ReadingDevice.medium c.args.device.now in
     one_more empty_directory_sector_at 32 c.loop-i.i m _ _ _ c.empty_directory_sector.result c.write.result (omega arith) c.write.ensures.value c.write.ensures.after c.loop-i.invariant
-    (c.loop-i.i - 1) (omega arith) (omega arith) refl c.empty_directory_sector.ensures c.in-ok-write.was
+    (c.loop-i.i - 1) (omega arith) (omega arith) refl c.empty_directory_sector.ensures c.in_ok-write.was
 
 pub returns : goal.returns
 unfolding empty_directory

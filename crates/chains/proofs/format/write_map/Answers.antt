@@ -4,13 +4,13 @@ use Rattle.chains.specs.Fresh.{map_sector_at, map_sectors, written_over}
 use Rattle.chains.proofs.Writes.{WrittenFrom, one_more, refused}
 use Rattle.chains.proofs.format.write_map.Goals as goal
 
-pub returns-in-err-write : goal.returns-in-err-write
-returns-in-err-write g c =
+pub returns-in_err-write : goal.returns-in_err-write
+returns-in_err-write g c =
     let marks = g.M.Marks.marked c.args.marks.now in
     let m = g.D.ReadingDevice.medium c.args.device.now in
-    let p = err_from_is_err_and {Q = λ e. e ≡ c.in-err-write.field-0.0} c.from-residual.result c.from-residual.ensures.1 in
+    let p = err_from_is_err_and {Q = λ e. e ≡ c.in_err-write.field-0.0} c.from_residual.result c.from_residual.ensures.1 in
     let r = refused (map_sector_at marks) 3 c.loop-j.j m _ _ _ c.map_sector.result c.write.result (omega arith) c.write.ensures.value c.write.ensures.after c.loop-j.invariant
-    _ _ c.from-residual.result c.in-err-write.was p.1 p.2 in
+    _ _ c.from_residual.result c.in_err-write.was p.1 p.2 in
     record { value = r.0; after = r.1 (written_over (map_sectors marks) m) }
 
 pub loop-j-preserved : goal.loop-j-preserved
@@ -18,7 +18,7 @@ loop-j-preserved g c =
     let marks = g.M.Marks.marked c.args.marks.now in
     let m = g.D.ReadingDevice.medium c.args.device.now in
     one_more (map_sector_at marks) 3 c.loop-j.j m _ _ _ c.map_sector.result c.write.result (omega arith) c.write.ensures.value c.write.ensures.after c.loop-j.invariant
-    (c.loop-j.j - 1) (omega arith) (omega arith) refl c.map_sector.ensures c.in-ok-write.was
+    (c.loop-j.j - 1) (omega arith) (omega arith) refl c.map_sector.ensures c.in_ok-write.was
 
 pub returns : goal.returns
 unfolding map_sectors

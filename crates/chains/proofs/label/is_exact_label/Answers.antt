@@ -15,20 +15,20 @@ id_in bs n = take n (take (length bs - 3) (drop 3 bs))
 id_is : (bs : List ℕ) (n : ℕ) → id_in bs n ≡ line (take (length bs - 3) (drop 3 bs)) → id_in bs n ≡ line (drop 3 bs)
 id_is bs n e = e ∙ ap line (take_rest bs 3)
 
-pub returns-then-not-is-legal-id : goal.returns-then-not-is-legal-id
-returns-then-not-is-legal-id c =
+pub returns-then-not-is_legal_id : goal.returns-then-not-is_legal_id
+returns-then-not-is_legal_id c =
     let bs = c.args.bytes.now in
-    let n = c.line-length.result in
-    exact_from bs (id_in bs n) c.args.size false (same bs (label_bytes (id_in bs n) c.args.size)) (id_is bs n c.line-length.ensures.line) c.if-not-is-legal-id.ensures refl
+    let n = c.line_length.result in
+    exact_from bs (id_in bs n) c.args.size false (same bs (label_bytes (id_in bs n) c.args.size)) (id_is bs n c.line_length.ensures.line) c.if-not-is_legal_id.ensures refl
 
-pub label-sector-label-requires : goal.label-sector-label-requires
-label-sector-label-requires c =
-    record { short = id_short (id_in c.args.bytes.now c.line-length.result) (sym c.if-not-is-legal-id.ensures); small = c.requires.small }
+pub label_sector-label-requires : goal.label_sector-label-requires
+label_sector-label-requires c =
+    record { short = id_short (id_in c.args.bytes.now c.line_length.result) (sym c.if-not-is_legal_id.ensures); small = c.requires.small }
 
 pub returns : goal.returns
 unfolding label_sector
 returns c =
     let bs = c.args.bytes.now in
-    let n = c.line-length.result in
-    let whole = c.same-bytes.ensures ∙ ap (λ (s : Sector). same bs s.bytes) c.label-sector-label.ensures in
-    exact_from bs (id_in bs n) c.args.size true c.same-bytes.result (id_is bs n c.line-length.ensures.line) c.if-not-is-legal-id.ensures whole
+    let n = c.line_length.result in
+    let whole = c.same_bytes.ensures ∙ ap (λ (s : Sector). same bs s.bytes) c.label_sector-label.ensures in
+    exact_from bs (id_in bs n) c.args.size true c.same_bytes.result (id_is bs n c.line_length.ensures.line) c.if-not-is_legal_id.ensures whole

@@ -18,10 +18,10 @@ returns c =
     let id_ends : length to_id ≡ 3 + length id = length-append (codes "ID=") id in
     let key_ends : length to_key ≡ length to_id + 9 = length-append to_id key in
     let size_ends : length to_size ≡ length to_key + length size = length-append to_key size in
-    let b1 = c.put-id-at.ensures.text 128 [] refl (omega arith) refl in
-    let b2 = c.put-key-at.ensures.text 128 (codes "ID=") (omega arith) (omega arith) b1 in
-    let b3 = c.put-size-at.ensures.text 128 to_id (omega arith) (omega arith) b2 in
-    let b4 = c.put-decimal-end.ensures.text 128 to_key (omega arith) (omega arith) b3 in
+    let b1 = c.put-id_at.ensures.text 128 [] refl (omega arith) refl in
+    let b2 = c.put-key_at.ensures.text 128 (codes "ID=") (omega arith) (omega arith) b1 in
+    let b3 = c.put-size_at.ensures.text 128 to_id (omega arith) (omega arith) b2 in
+    let b4 = c.put_decimal-end.ensures.text 128 to_key (omega arith) (omega arith) b3 in
     let b5 = c.put.ensures.text 128 to_size (omega arith) (omega arith) b4 in
     let whole = b5 ∙ ap (λ (xs : List ℕ). padded 128 xs) (joined_right (codes "ID=") id key size (10 ∷ [])) in
     c.unlinked.ensures ∙ ap (λ (xs : List ℕ). sector xs null null) whole

@@ -5,8 +5,8 @@ use Rattle.chains.proofs.listing.read_place.Goals as goal
 pub returns : goal.returns
 returns g c =
     let m = g.D.ReadingDevice.medium c.args.device.now in
-    let start = c.place-start-start.result in
+    let start = c.place_start-start.result in
     record {
       same = c.read.ensures.same;
-      value = parsed_place m c.args.p start (start + 40 - start) c.in-ok-sector.sector c.parse-place.result c.in-ok-sector.ensures.value c.place-start-start.ensures (omega arith) c.parse-place.ensures;
+      value = parsed_place m c.args.p start (start + 40 - start) c.in_ok-sector.sector c.parse_place.result c.in_ok-sector.ensures.value c.place_start-start.ensures (omega arith) c.parse_place.ensures;
     }

@@ -2,13 +2,13 @@ use Rattle.std.proofs.Common.{refl, ◌∙◌, arith}
 use Rattle.chains.proofs.Lookups.{looked_further, looked_through, unread}
 use Rattle.chains.proofs.lookup.look_up.Goals as goal
 
-pub returns-in-err-sector : goal.returns-in-err-sector
-returns-in-err-sector g c =
+pub returns-in_err-sector : goal.returns-in_err-sector
+returns-in_err-sector g c =
     let m = g.D.ReadingDevice.medium c.args.device.now in
     let now = g.D.ReadingDevice.medium c.loop-i.device in
     record {
       same = c.read.ensures.same ∙ c.loop-i.invariant.same;
-      found = λ d laid door. unread c.args.name.now m now c.loop-i.i c.loop-i.lookup c.loop-i.invariant _ c.loop-i-test.true c.in-err-sector.ensures.value d laid door;
+      found = λ d laid door. unread c.args.name.now m now c.loop-i.i c.loop-i.lookup c.loop-i.invariant _ c.loop-i-test.true c.in_err-sector.ensures.value d laid door;
     }
 
 pub loop-i-init : goal.loop-i-init
@@ -18,7 +18,7 @@ pub loop-i-preserved : goal.loop-i-preserved
 loop-i-preserved g c =
     let m = g.D.ReadingDevice.medium c.args.device.now in
     let now = g.D.ReadingDevice.medium c.loop-i.device in
-    looked_further c.args.name.now m now c.loop-i.i c.loop-i.lookup c.loop-i.invariant _ c.in-ok-sector.sector c.look-in-sector-lookup.result c.loop-i-test.true c.in-ok-sector.ensures.value c.read.ensures.same c.look-in-sector-lookup.ensures
+    looked_further c.args.name.now m now c.loop-i.i c.loop-i.lookup c.loop-i.invariant _ c.in_ok-sector.sector c.look_in_sector-lookup.result c.loop-i-test.true c.in_ok-sector.ensures.value c.read.ensures.same c.look_in_sector-lookup.ensures
 
 pub returns : goal.returns
 returns g c =

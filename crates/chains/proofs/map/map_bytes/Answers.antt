@@ -8,7 +8,7 @@ use Rattle.chains.proofs.map.map_bytes.Goals as goal
 pub loop-k-preserved : goal.loop-k-preserved
 loop-k-preserved g c =
     let f : ℕ → ℕ = λ k. map_byte (g.M.Marks.marked c.args.marks.now) (1024 * c.args.j + 8 * k) in
-    (length-set c.loop-k.bytes c.loop-k.k _ ∙ c.loop-k.invariant.0, λ k h. simp c.byte-from.ensures (fill_by_more f c.loop-k.bytes c.loop-k.k 0 (omega arith) c.loop-k.invariant.1 k h))
+    (length-set c.loop-k.bytes c.loop-k.k _ ∙ c.loop-k.invariant.0, λ k h. simp c.byte_from.ensures (fill_by_more f c.loop-k.bytes c.loop-k.k 0 (omega arith) c.loop-k.invariant.1 k h))
 
 pub returns : goal.returns
 returns g c =

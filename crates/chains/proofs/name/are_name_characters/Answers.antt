@@ -4,14 +4,14 @@ use Rattle.chains.specs.Names.{all, name_character}
 use Rattle.chains.proofs.Tests.{all_more}
 use Rattle.chains.proofs.name.are_name_characters.Goals as goal
 
-pub returns-then-not-is-name-character : goal.returns-then-not-is-name-character
-returns-then-not-is-name-character c =
-    let bad = c.if-not-is-name-character.ensures in
+pub returns-then-not-is_name_character : goal.returns-then-not-is_name_character
+returns-then-not-is_name_character c =
+    let bad = c.if-not-is_name_character.ensures in
     sym (sym c.loop-c.invariant ∙ all_more name_character c.args.bytes.now c.loop-c.c-index false c.loop-c-test.true (sym bad))
 
 pub loop-c-preserved : goal.loop-c-preserved
 loop-c-preserved c =
-    let fine = c.if-not-is-name-character.ensures in
+    let fine = c.if-not-is_name_character.ensures in
     sym (all_more name_character c.args.bytes.now c.loop-c.c-index true c.loop-c-test.true (sym fine)) ∙ c.loop-c.invariant
 
 pub returns : goal.returns

@@ -15,25 +15,25 @@ part_is bs size e = ap (λ (n : ℕ). take n (drop 1 bs)) (omega arith)
 pub returns-then-size-gt32 : goal.returns-then-size-gt32
 returns-then-size-gt32 c = and_right _ _ (long_illegal c.args.bytes.now c.requires (omega arith))
 
-pub returns-then-not-is-legal-name : goal.returns-then-not-is-legal-name
-returns-then-not-is-legal-name c =
+pub returns-then-not-is_legal_name : goal.returns-then-not-is_legal_name
+returns-then-not-is_legal_name c =
     let bs = c.args.bytes.now in
-    and_right _ _ (sym (c.if-not-is-legal-name.ensures ∙ ap legal (part_is bs c.from-size.result c.from-size.ensures)))
+    and_right _ _ (sym (c.if-not-is_legal_name.ensures ∙ ap legal (part_is bs c.from-size.result c.from-size.ensures)))
 
-pub returns-then-not-same-bytes : goal.returns-then-not-same-bytes
-returns-then-not-same-bytes c =
+pub returns-then-not-same_bytes : goal.returns-then-not-same_bytes
+returns-then-not-same_bytes c =
     let bs = c.args.bytes.now in
     let size = c.from-size.result in
-    parsed bs (part bs size) c.place_bytes.result c.word-at-at.result true false c.requires (omega arith) (part_is bs size c.from-size.ensures) c.word-at-at.ensures c.place_bytes.ensures
-    c.if-not-is-legal-name.ensures c.if-not-same-bytes.ensures
+    parsed bs (part bs size) c.place_bytes.result c.word_at-at.result true false c.requires (omega arith) (part_is bs size c.from-size.ensures) c.word_at-at.ensures c.place_bytes.ensures
+    c.if-not-is_legal_name.ensures c.if-not-same_bytes.ensures
 
 pub returns : goal.returns
 returns c =
     let bs = c.args.bytes.now in
     let size = c.from-size.result in
     let name = part_is bs size c.from-size.ensures in (
-      parsed bs (part bs size) c.place_bytes.result c.word-at-at.result true true c.requires (omega arith) name c.word-at-at.ensures c.place_bytes.ensures c.if-not-is-legal-name.ensures
-          c.if-not-same-bytes.ensures,
+      parsed bs (part bs size) c.place_bytes.result c.word_at-at.result true true c.requires (omega arith) name c.word_at-at.ensures c.place_bytes.ensures c.if-not-is_legal_name.ensures
+          c.if-not-same_bytes.ensures,
       c.new.ensures ∙ name,
-      c.word-at-at.ensures,
+      c.word_at-at.ensures,
     )

@@ -8,10 +8,10 @@ returns g c =
     let m = g.D.ReadingDevice.medium c.args.device.now in
     let free = g.A.SectorAllocator.member c.args.allocator.now in
     let size = c.count-size.result in
-    let value = c.save-marks.ensures.value in
-    let after = c.save-marks.ensures.after in
+    let value = c.save_marks.ensures.value in
+    let after = c.save_marks.ensures.after in
     record {
       value = value;
-      refused = unsaved (written_over (remapped_all m.sectors (marks_by size free)) m) m _ c.save-marks.result after;
-      after = λ d laid shut off unused. saved d m laid size c.count-size.ensures.value free unused _ c.save-marks.result value after shut off;
+      refused = unsaved (written_over (remapped_all m.sectors (marks_by size free)) m) m _ c.save_marks.result after;
+      after = λ d laid shut off unused. saved d m laid size c.count-size.ensures.value free unused _ c.save_marks.result value after shut off;
     }

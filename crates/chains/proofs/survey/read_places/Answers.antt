@@ -14,8 +14,8 @@ loop-i-init g c =
     let none = c.requires.none in
     (refl, refl, omega arith, refl)
 
-pub read-directory-sector-requires : goal.read-directory-sector-requires
-read-directory-sector-requires g c =
+pub read_directory_sector-requires : goal.read_directory_sector-requires
+read_directory_sector-requires g c =
     let same = c.loop-i.invariant.0 in
     let count = c.loop-i.invariant.2 in
     record {
@@ -26,16 +26,16 @@ read-directory-sector-requires g c =
       below = omega arith;
     }
 
-pub returns-in-err-read-directory-sector : goal.returns-in-err-read-directory-sector
-returns-in-err-read-directory-sector g c =
+pub returns-in_err-read_directory_sector : goal.returns-in_err-read_directory_sector
+returns-in_err-read_directory_sector g c =
     let ss : Disk = (g.D.ReadingDevice.medium c.args.device.now).sectors in
-    let p = err_from_is_err_and {Q = λ e. e ≡ c.in-err-read-directory-sector.field-0.0} c.from-residual.result c.from-residual.ensures.1 in
+    let p = err_from_is_err_and {Q = λ e. e ≡ c.in_err-read_directory_sector.field-0.0} c.from_residual.result c.from_residual.ensures.1 in
     let k : Seen → Result Seen Fault = λ t. places_on ss (3 * 32 - 3 * (c.loop-i.i + 1)) (3 * (c.loop-i.i + 1)) t in
     let more = sector_left ss _ (ap (λ (m : Medium). m.sectors) c.loop-i.invariant.0) 32 c.loop-i.i (seen_of c.loop-i.scan) (omega arith) in
     record {
-      scans = passed_on _ _ k c.read-directory-sector.result c.from-residual.result _ _ _ (more ∙ c.loop-i.invariant.3) c.read-directory-sector.ensures.scans c.in-err-read-directory-sector.was p.1 p.2;
-      span = c.read-directory-sector.ensures.span ∙ c.loop-i.invariant.1;
-      same = c.read-directory-sector.ensures.same ∙ c.loop-i.invariant.0;
+      scans = passed_on _ _ k c.read_directory_sector.result c.from_residual.result _ _ _ (more ∙ c.loop-i.invariant.3) c.read_directory_sector.ensures.scans c.in_err-read_directory_sector.was p.1 p.2;
+      span = c.read_directory_sector.ensures.span ∙ c.loop-i.invariant.1;
+      same = c.read_directory_sector.ensures.same ∙ c.loop-i.invariant.0;
     }
 
 pub loop-i-preserved : goal.loop-i-preserved
@@ -44,11 +44,11 @@ loop-i-preserved g c =
     let k : Seen → Result Seen Fault = λ t. places_on ss (3 * 32 - 3 * (c.loop-i.i + 1)) (3 * (c.loop-i.i + 1)) t in
     let more = sector_left ss _ (ap (λ (m : Medium). m.sectors) c.loop-i.invariant.0) 32 c.loop-i.i (seen_of c.loop-i.scan) (omega arith) in
     let before = c.loop-i.invariant.2 in
-    let after = c.read-directory-sector.ensures.count in (
-      c.read-directory-sector.ensures.same ∙ c.loop-i.invariant.0,
-      c.read-directory-sector.ensures.span ∙ c.loop-i.invariant.1,
+    let after = c.read_directory_sector.ensures.count in (
+      c.read_directory_sector.ensures.same ∙ c.loop-i.invariant.0,
+      c.read_directory_sector.ensures.span ∙ c.loop-i.invariant.1,
       omega arith,
-      gone_on _ _ k c.read-directory-sector.result c.read-directory-sector.new.scan (more ∙ c.loop-i.invariant.3) c.read-directory-sector.ensures.scans c.in-ok-read-directory-sector.was,
+      gone_on _ _ k c.read_directory_sector.result c.read_directory_sector.new.scan (more ∙ c.loop-i.invariant.3) c.read_directory_sector.ensures.scans c.in_ok-read_directory_sector.was,
     )
 
 pub returns : goal.returns

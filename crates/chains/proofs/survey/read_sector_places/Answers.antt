@@ -9,8 +9,8 @@ use Rattle.chains.specs.Readable.{Readable}
 use Rattle.chains.proofs.PlaceParts.{passed_on, gone_on, all_done, place_more, places_none}
 use Rattle.chains.proofs.survey.read_sector_places.Goals as goal
 
-pub read-place-requires : goal.read-place-requires
-read-place-requires g c =
+pub read_place-requires : goal.read_place-requires
+read_place-requires g c =
     let same = c.loop-j.invariant.0 in
     let count = c.loop-j.invariant.2 in
     let all = c.requires.whole.count in
@@ -22,19 +22,19 @@ read-place-requires g c =
       long = simp (length-take, length-drop) (omega arith);
     }
 
-pub returns-in-err-read-place : goal.returns-in-err-read-place
-returns-in-err-read-place g c =
+pub returns-in_err-read_place : goal.returns-in_err-read_place
+returns-in_err-read_place g c =
     let ss : Disk = (g.D.ReadingDevice.medium c.args.device.now).sectors in
-    let p = err_from_is_err_and {Q = λ e. e ≡ c.in-err-read-place.field-0.0} c.from-residual.result c.from-residual.ensures.1 in
+    let p = err_from_is_err_and {Q = λ e. e ≡ c.in_err-read_place.field-0.0} c.from_residual.result c.from_residual.ensures.1 in
     let k : Seen → Result Seen Fault = λ t. places_on ss (3 - (c.loop-j.j + 1)) (3 * c.args.i + (c.loop-j.j + 1)) t in
     let more = place_more ss _ (ap (λ (m : Medium). m.sectors) c.loop-j.invariant.0) c.args.i c.loop-j.j c.args.sector.now (40 * c.loop-j.j + 40 - 40 * c.loop-j.j) (seen_of c.loop-j.scan) (omega arith) c.requires.there (omega arith) in
     let before = c.loop-j.invariant.2 in
-    let after = c.read-place.ensures.count in
+    let after = c.read_place.ensures.count in
     record {
-      scans = passed_on _ _ k c.read-place.result c.from-residual.result _ _ _ (more ∙ c.loop-j.invariant.3) c.read-place.ensures.scans c.in-err-read-place.was p.1 p.2;
+      scans = passed_on _ _ k c.read_place.result c.from_residual.result _ _ _ (more ∙ c.loop-j.invariant.3) c.read_place.ensures.scans c.in_err-read_place.was p.1 p.2;
       count = omega arith;
-      span = c.read-place.ensures.span ∙ c.loop-j.invariant.1;
-      same = c.read-place.ensures.same ∙ c.loop-j.invariant.0;
+      span = c.read_place.ensures.span ∙ c.loop-j.invariant.1;
+      same = c.read_place.ensures.same ∙ c.loop-j.invariant.0;
     }
 
 pub loop-j-preserved : goal.loop-j-preserved
@@ -43,11 +43,11 @@ loop-j-preserved g c =
     let k : Seen → Result Seen Fault = λ t. places_on ss (3 - (c.loop-j.j + 1)) (3 * c.args.i + (c.loop-j.j + 1)) t in
     let more = place_more ss _ (ap (λ (m : Medium). m.sectors) c.loop-j.invariant.0) c.args.i c.loop-j.j c.args.sector.now (40 * c.loop-j.j + 40 - 40 * c.loop-j.j) (seen_of c.loop-j.scan) (omega arith) c.requires.there (omega arith) in
     let before = c.loop-j.invariant.2 in
-    let after = c.read-place.ensures.count in (
-      c.read-place.ensures.same ∙ c.loop-j.invariant.0,
-      c.read-place.ensures.span ∙ c.loop-j.invariant.1,
+    let after = c.read_place.ensures.count in (
+      c.read_place.ensures.same ∙ c.loop-j.invariant.0,
+      c.read_place.ensures.span ∙ c.loop-j.invariant.1,
       omega arith,
-      gone_on _ _ k c.read-place.result c.read-place.new.scan (more ∙ c.loop-j.invariant.3) c.read-place.ensures.scans c.in-ok-read-place.was,
+      gone_on _ _ k c.read_place.result c.read_place.new.scan (more ∙ c.loop-j.invariant.3) c.read_place.ensures.scans c.in_ok-read_place.was,
     )
 
 pub returns : goal.returns

@@ -20,7 +20,7 @@ returns-then-sector-here g c =
     let ss : Disk = (g.D.ReadingDevice.medium c.args.device.now).sectors in
     let met : ℕ → Bool = bit_of c.args.met.now.bits in
     record {
-      steps = λ k. step_wrong ss met c.args.here c.args.there c.requires.leads k (fits_span ss met c.args.there _ c.requires.spans c.if-not-meet.ensures.value) _ c.in-ok-sector.ensures.value c.if-sector-here.true ∙ ap (λ (f : Fault). Err f) (sym c.structure-fault-then-sector-here.ensures);
+      steps = λ k. step_wrong ss met c.args.here c.args.there c.requires.leads k (fits_span ss met c.args.there _ c.requires.spans c.if-not-meet.ensures.value) _ c.in_ok-sector.ensures.value c.if-sector-here.true ∙ ap (λ (f : Fault). Err f) (sym c.structure_fault-then-sector-here.ensures);
       span = search rules;
       same = search rules;
     }
@@ -30,7 +30,7 @@ returns g c =
     let ss : Disk = (g.D.ReadingDevice.medium c.args.device.now).sectors in
     let met : ℕ → Bool = bit_of c.args.met.now.bits in
     record {
-      steps = step_right ss met c.args.here c.args.there c.requires.leads (fits_span ss met c.args.there _ c.requires.spans c.if-not-meet.ensures.value) _ c.in-ok-sector.ensures.value c.if-sector-here.false _ (c.if-not-meet.ensures.after refl);
+      steps = step_right ss met c.args.here c.args.there c.requires.leads (fits_span ss met c.args.there _ c.requires.spans c.if-not-meet.ensures.value) _ c.in_ok-sector.ensures.value c.if-sector-here.false _ (c.if-not-meet.ensures.after refl);
       span = search rules;
       same = search rules;
     }

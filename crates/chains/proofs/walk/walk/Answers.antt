@@ -23,14 +23,14 @@ step-requires g c =
       leads = c.loop.invariant.2 ∙ ap (λ (m : Medium). (sector_at m.sectors c.loop.here).forward) (sym same);
     }
 
-pub returns-in-err-after : goal.returns-in-err-after
-returns-in-err-after g c =
+pub returns-in_err-after : goal.returns-in_err-after
+returns-in_err-after g c =
     let ss : Disk = (g.D.ReadingDevice.medium c.args.device.now).sectors in
-    let p = err_from_is_err_and {Q = λ e. e ≡ c.in-err-after.field-0.0} c.from-residual.result c.from-residual.ensures.1 in
+    let p = err_from_is_err_and {Q = λ e. e ≡ c.in_err-after.field-0.0} c.from_residual.result c.from_residual.ensures.1 in
     record {
       walks =
           walk_fails ss _ (ap (λ (m : Medium). m.sectors) c.loop.invariant.0) _ _ _ c.loop.counter c.args.count _ c.loop.invariant.3 (omega arith) c.step.result _ c.step.ensures.steps
-          _ _ c.from-residual.result _ c.in-err-after.was p.1 p.2;
+          _ _ c.from_residual.result _ c.in_err-after.was p.1 p.2;
       span = c.step.ensures.span ∙ c.loop.invariant.1;
       same = c.step.ensures.same ∙ c.loop.invariant.0;
     }
@@ -38,7 +38,7 @@ returns-in-err-after g c =
 pub loop-preserved : goal.loop-preserved
 loop-preserved g c =
     let ss : Disk = (g.D.ReadingDevice.medium c.args.device.now).sectors in
-    let t = walk_goes_on ss _ (ap (λ (m : Medium). m.sectors) c.loop.invariant.0) _ _ _ c.loop.counter c.args.count _ c.loop.invariant.3 (omega arith) c.step.result _ c.step.ensures.steps _ c.in-ok-after.was in
+    let t = walk_goes_on ss _ (ap (λ (m : Medium). m.sectors) c.loop.invariant.0) _ _ _ c.loop.counter c.args.count _ c.loop.invariant.3 (omega arith) c.step.result _ c.step.ensures.steps _ c.in_ok-after.was in
     (c.step.ensures.same ∙ c.loop.invariant.0, c.step.ensures.span ∙ c.loop.invariant.1, t.0, t.1)
 
 pub returns-then-next : goal.returns-then-next
