@@ -61,7 +61,6 @@ fresh_drive r a d off same none closed_all =
           orderly = starts_laid.new _ _ _;
           laid = λ i. absurd (false≢true i);
         };
-        unread = record { files = λ _. refl; changed = λ _. refl };
         files = none;
         span = λ i. absurd (false≢true i);
       };

@@ -26,7 +26,7 @@ use Rattle.drive.specs.declared.answer.Answer.{Answer}
 use Rattle.drive.specs.declared.drive.Drive.{Drive}
 use Rattle.drive.specs.declared.units.State.{State}
 use Rattle.drive.specs.Checks.{first_fault, initialize_checks}
-use Rattle.drive.specs.Parts.{Initializes, ReadsIn, TakesOver, TurnsAway, done_answer, from_fault, own_initialize_checks, started_state, unread_state}
+use Rattle.drive.specs.Parts.{Initializes, ReadsIn, TakesOver, TurnsAway, done_answer, from_fault, forgotten, own_initialize_checks, started_state, unread_state}
 use Rattle.drive.specs.Serves.{Represents, Serving, ServesAlone, view, told_by}
 use Rattle.drive.specs.Units.{any_open, is_open, unit_of}
 use Rattle.drive.proofs.Examining.{readable}
@@ -61,7 +61,7 @@ module _ {D S : Type 0} (r : Reading D) (a : Allocating S) (d k e : Drive D S) (
     layer = away.layer;
     sector = away.sector;
     allocator = away.allocator ∙ allocator;
-    state = away.state ∙ ap unread_state state;
+    state = away.state ∙ ap forgotten state;
   }
   reads_in (read l) (Err f) none = none
   reads_in (read l) (Ok u) takes = record {
@@ -157,12 +157,7 @@ module _ {D S : Type 0} (r : Reading D) (a : Allocating S) (d e : Drive D S) (bu
       b.initialized ≡ false → o ≡ read_in b (faulty c n) buf → Serving r a b call d (told_by ans [] buf) e
   turned_away f c n ans reads is medium away off fault-is =
       let v = rep.tallies in
-      let same : e.state ≡ d.state = away.state ∙ (λ i. record {
-        initialized = (sym off ∙ sym v.initialized) i;
-        changed = (sym (rep.unread.changed off) ∙ sym v.map_changed) i;
-        files = (sym (ap length (rep.unread.files off)) ∙ sym rep.files) i;
-        units = d.state.units;
-      }) in
+      let same : e.state ≡ d.state = away.state ∙ ap (λ i. cond i (unread_state d.state) d.state) (v.initialized ∙ off) in
       let shown : told_by ans [] buf ≡ told (read_in b (faulty c n) buf) = ap (λ x. told_by x [] buf) is ∙ (λ i. record {
         code = away.code i;
         len = 0;

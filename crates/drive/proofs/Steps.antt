@@ -11,7 +11,6 @@ use Rattle.rules.specs.Runs.{View, Call, Told, DiskAfter, told, supplied_by}
 use Rattle.rules.specs.Served.{Effect, ReadsOnlySound, Served, outcome}
 use Rattle.rules.proofs.Refused.{refusal_keeps}
 use Rattle.rules.proofs.Serving.{serving_steps}
-use Rattle.rules.proofs.Unread.{stays_unread}
 use Rattle.drive.specs.declared.drive.Drive.{Drive}
 use Rattle.drive.specs.Serves.{Represents, Serving, view}
 
@@ -43,7 +42,7 @@ module _ {D S : Type 0} (r : Reading D) (a : Allocating S) (b : Model) (q : Call
   pub served : Served b (view r a d) q (view r a e) → e.state.files ≡ length o.after.files → (o.after.initialized ≡ true → a.span e.allocator ≡ o.after.size) → Serving r a b q d t e
   served s files span =
       let n = serving_steps b (view r a d) q (view r a e) before rep.tallies s in
-      record { answered = answered; step = n.step; represents = record { tallies = n.tallies; unread = stays_unread b (supplied_by (view r a d).sectors) q.request q.buffer rep.unread; files = files; span = span } }
+      record { answered = answered; step = n.step; represents = record { tallies = n.tallies; files = files; span = span } }
 
   -- a refusal, with nothing touched
   pub turned_down : o.refused ≡ true → r.medium e.device ≡ r.medium d.device → ((n : ℕ) → a.member e.allocator n ≡ a.member d.allocator n) → a.span e.allocator ≡ a.span d.allocator → e.state ≡ d.state → Serving r a b q d t e

@@ -18,7 +18,6 @@ use Rattle.drive.specs.Serves.{Represents, Serving, model_of, told_by, view}
 
 abbrev pub request_of : Request → model.Request
 request_of (request.Format id) = model.Format (vec_items id)
-request_of request.Initialize = model.Initialize
 request_of (request.Door x) = model.Door x
 request_of (request.Tab x) = model.Tab x
 request_of request.Status = model.Status

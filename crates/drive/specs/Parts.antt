@@ -35,16 +35,21 @@ done_answer = record { code = Done; length = 0; layer = None; sector = 0xFFFF }
 abbrev pub from_fault : Fault → Answer
 from_fault f = record { code = f.code; length = 0; layer = f.layer; sector = f.sector }
 
+-- initialised, with no file and a map that is up to date
+abbrev pub formatted_state : State → State
+formatted_state s = record { initialized = true; changed = false; files = 0; units = s.units }
+
 -- initialised, with so many files and a map that is up to date
 abbrev pub started_state : ℕ → State → State
 started_state n s = record { initialized = true; changed = false; files = n; units = s.units }
 
-abbrev pub formatted_state : State → State
-formatted_state = started_state 0
-
 -- nothing is known of the disk
 abbrev pub unread_state : State → State
 unread_state s = record { initialized = false; changed = false; files = 0; units = s.units }
+
+-- no longer initialised, if it was
+abbrev pub forgotten : State → State
+forgotten s = cond s.initialized (unread_state s) s
 
 -- FORMAT from d to e, refused as x says, with nothing touched then
 pub record Formats {D S : Type 0} (r : Reading D) (a : Allocating S) (id : List ℕ) (d : Drive D S) (x : Result Unit Fault) (e : Drive D S) : Type 0 where
@@ -72,7 +77,7 @@ pub record TurnsAway {D S : Type 0} (d : Drive D S) (c n : ℕ) (f : Fault) (e :
   pub layer : f.layer ≡ Structure
   pub sector : f.sector ≡ n
   pub allocator : e.allocator ≡ d.allocator
-  pub state : e.state ≡ unread_state d.state
+  pub state : e.state ≡ forgotten d.state
 
 -- by what reading the disk gives
 abbrev pub ReadsIn : {D S : Type 0} → Reading D → Allocating S → Drive D S → Found Layout → Result Unit Fault → Drive D S → Type 0

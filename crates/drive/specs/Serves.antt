@@ -5,7 +5,6 @@ use Rattle.device.specs.Codes.{code_number, layer_number}
 use Rattle.device.specs.Device.{Medium}
 use Rattle.freespace.specs.declared.allocator.SectorAllocator.{Ghosts as Allocating}
 use Rattle.rules.specs.Model.{Model, Request, Outcome, new_model}
-use Rattle.rules.specs.Matching.{UnreadIsEmpty}
 use Rattle.rules.specs.Runs.{View, Call, Step, Told, told}
 use Rattle.rules.specs.Served.{Tallies, outcome}
 use Rattle.drive.specs.declared.answer.Answer.{Answer}
@@ -32,8 +31,6 @@ model_of m = new_model (length m.sectors) m.door m.tab
 pub record Represents {D S : Type 0} (r : Reading D) (a : Allocating S) (b : Model) (d : Drive D S) : Type 0 where
   -- door, tab, units and marks are the model's, and the disk is laid out with the model's files
   pub tallies : Tallies b (view r a d)
-  -- a drive that is not initialised has no file
-  pub unread : UnreadIsEmpty b
   -- what the drive keeps beside: how many files there are, and that its allocator is for a disk of this size
   pub files : d.state.files ≡ length b.files
   pub span : b.initialized ≡ true → a.span d.allocator ≡ b.size

@@ -7,7 +7,7 @@ use Rattle.chains.specs.NameBytes.{name_bytes}
 use Rattle.rules.specs.Model.{UnitState, closed, holds, has_name, is_closed, any}
 use Rattle.drive.specs.declared.units.Kind.{Kind}
 use Rattle.drive.specs.declared.units.Kind.TheVariants.{Input, New, Output, Append}
-use Rattle.drive.specs.declared.units.UnitState.{UnitState}
+use Rattle.drive.specs.declared.units.UnitState.{UnitState as SlotState}
 use Rattle.drive.specs.declared.units.UnitState.TheVariants as unit
 use Rattle.drive.specs.declared.units.UnitRequest.{UnitRequest}
 use Rattle.drive.specs.declared.units.UnitRequest.TheVariants as asked
@@ -20,7 +20,7 @@ kind_number New = 1
 kind_number Output = 2
 kind_number Append = 3
 
-abbrev pub state_of : UnitState → List ℕ → UnitState
+abbrev pub state_of : SlotState → List ℕ → UnitState
 state_of unit.Closed n = closed
 state_of (unit.Open k c d r) n = holds n (kind_number k) c
 
@@ -43,7 +43,7 @@ abbrev pub kind_from : ℕ → Option Kind
 kind_from n = cond (n == 0) (Some Input) (cond (n == 1) (Some New) (cond (n == 2) (Some Output) (cond (n == 3) (Some Append) None)))
 
 -- the state that a request leads to, or its refusal
-abbrev pub stepped : UnitState → UnitRequest → Result UnitState Fault
+abbrev pub stepped : SlotState → UnitRequest → Result SlotState Fault
 stepped unit.Closed (asked.Open k c d r) = Ok (unit.Open k c d r)
 stepped unit.Closed asked.Close = Err (plain_fault FileNotOpen Request)
 stepped unit.Closed asked.Rewind = Err (plain_fault FileNotOpen Request)

@@ -10,7 +10,6 @@ use device::{Code, Layer};
 #[derive(Drop)]
 pub enum Request {
     Format { id: Vec<u8> },
-    Initialize,
     Door { open: bool },
     Tab { on: bool },
     Status,

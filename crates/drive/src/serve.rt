@@ -15,7 +15,6 @@ impl<D: WritingDevice, A: SectorAllocator> Drive<D, A> {
     {
         match request {
             Request::Format { id } => (self.format(id.as_slice()), Reported::Nothing),
-            Request::Initialize => (self.initialize(), Reported::Nothing),
             Request::Door { open } => (self.door(*open), Reported::Nothing),
             Request::Tab { on } => (self.tab(*on), Reported::Nothing),
             Request::Status => {

@@ -136,6 +136,8 @@ pub struct State {
 }
 
 impl State {
+    ghost use Rattle.drive.specs.Parts.{forgotten};
+
     // Not initialised, no file, and every unit closed.
     pub(crate) fn new() -> State
         ensures initialized { result.initialized ≡ false }
@@ -167,16 +169,15 @@ impl State {
         self.files = files;
     }
 
-    // Nothing is known of the disk: it is not initialised, and has no file.
+    // Nothing is known of the disk any more: if it was initialised, it is not, and has no file.
     pub(crate) fn forget(&mut self)
-        ensures initialized { self.new.initialized ≡ false }
-        ensures changed { self.new.changed ≡ false }
-        ensures files { self.new.files ≡ 0 }
-        ensures units { self.new.units ≡ self.old.units }
+        ensures { self.new ≡ forgotten self.old }
     {
-        self.initialized = false;
-        self.changed = false;
-        self.files = 0;
+        if self.initialized {
+            self.initialized = false;
+            self.changed = false;
+            self.files = 0;
+        }
     }
 
     // A file was erased, and the map was saved with it.

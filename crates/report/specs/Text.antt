@@ -5,7 +5,7 @@ use Rattle.device.specs.Codes.{code_number, layer_number}
 use Rattle.device.specs.declared.sector.Sector.{Sector}
 use Rattle.drive.specs.declared.answer.Answer.{Answer}
 use Rattle.drive.specs.declared.request.Request.{Request}
-use Rattle.drive.specs.declared.request.Request.TheVariants.{Format, Initialize, Door, Tab, Status}
+use Rattle.drive.specs.declared.request.Request.TheVariants.{Format, Door, Tab, Status}
 use Rattle.drive.specs.declared.request.Usage.{Usage}
 use Rattle.report.specs.Digits.{hex_byte, hex_word, base_ten}
 
@@ -25,7 +25,6 @@ format_text id = codes "FORMAT ID=" ++ map shown_byte id
 
 abbrev pub request_text : Request → List ℕ
 request_text (Format id) = format_text (vec_items id)
-request_text Initialize = codes "INITIALIZE"
 request_text (Door is_open) = cond is_open (codes "DOOR OPEN") (codes "DOOR CLOSED")
 request_text (Tab is-on) = cond is-on (codes "TAB ON") (codes "TAB OFF")
 request_text Status = codes "STATUS"

@@ -68,7 +68,6 @@ pub fn request_line(heap: Global, request: &Request) -> Result<String, AllocErro
 {
     match request {
         Request::Format { id } => format_line(heap, id.as_slice()),
-        Request::Initialize => String::from_str(heap, "INITIALIZE"),
         Request::Door { open: true } => String::from_str(heap, "DOOR OPEN"),
         Request::Door { open: false } => String::from_str(heap, "DOOR CLOSED"),
         Request::Tab { on: true } => String::from_str(heap, "TAB ON"),

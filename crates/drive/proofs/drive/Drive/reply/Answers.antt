@@ -8,10 +8,7 @@ use Rattle.drive.proofs.drive.Drive.reply.Goals as goal
 pub returns-in-Format : goal.returns-in-Format
 returns-in-Format g c =
     replied g.D.ReadingDevice g.A.SectorAllocator _ _ _ _ _ Nothing c.in-Format.is
-    (subst (λ id. ServesAlone g.D.ReadingDevice g.A.SectorAllocator (Format id) c.args.self.now c.format.result [] c.format.new.self) c.as-slice.ensures.value c.format.ensures)
-
-pub returns-in-Initialize : goal.returns-in-Initialize
-returns-in-Initialize g c = replied g.D.ReadingDevice g.A.SectorAllocator _ _ _ _ _ Nothing c.in-Initialize.is c.initialize.ensures
+    (subst (λ id. ServesAlone g.D.ReadingDevice g.A.SectorAllocator (Format id) c.args.self.now c.format.result [] c.format.new.self) c.as_slice.ensures.value c.format.ensures)
 
 pub returns-in-Door : goal.returns-in-Door
 returns-in-Door g c = replied g.D.ReadingDevice g.A.SectorAllocator _ _ _ _ _ Nothing c.in-Door.is c.door.ensures

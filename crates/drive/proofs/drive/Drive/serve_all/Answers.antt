@@ -6,7 +6,7 @@ pub loop-i-init : goal.loop-i-init
 loop-i-init g c = none_served g.D.ReadingDevice g.A.SectorAllocator _ _
 
 pub loop-i-preserved : goal.loop-i-preserved
-loop-i-preserved g c = c.serve-next.ensures _ _ c.loop-i.invariant
+loop-i-preserved g c = c.serve_next.ensures _ _ c.loop-i.invariant
 
 pub returns : goal.returns
 returns g c =
