@@ -16,4 +16,4 @@ pub returns : goal.returns
 unfolding encode
 returns c =
     let whole = take_all c.loop-b.b-index c.args.bytes.now (omega arith) in
-    pushed newline (c.loop-b.invariant ∙ ap (hex_cells c.args.at) whole) c.in-ok-push-4.was c.push-2.ensures.bytes
+    pushed newline (c.loop-b.invariant ∙ ap (hex_cells c.args.at) whole) c.in_ok-push-4.was c.push-2.ensures.bytes

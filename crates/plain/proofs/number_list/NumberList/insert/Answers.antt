@@ -4,8 +4,8 @@ use Rattle.plain.specs.Members.{listed}
 use Rattle.plain.proofs.MemberLaws.{listed_pushed}
 use Rattle.plain.proofs.number_list.NumberList.insert.Goals as goal
 
-pub push-reserved-requires : goal.push-reserved-requires
-push-reserved-requires c =
+pub push_reserved-requires : goal.push_reserved-requires
+push_reserved-requires c =
     let k = c.args.self.now in
     let n = c.args.n in
     let old = listed k.members.items in
@@ -13,24 +13,24 @@ push-reserved-requires c =
     let more = counted_added old new n k.sectors (λ m. refl) c.requires.0 c.requires.1 in
     omega (arith, more, counted_le new k.sectors, k.tally, k.small, k.room)
 
-pub invariant-of-self : goal.invariant-of-self
-invariant-of-self c =
+pub invariant_of-self : goal.invariant_of-self
+invariant_of-self c =
     let k = c.args.self.now in
     let n = c.args.n in
     let old = listed k.members.items in
-    let new = listed c.push-reserved.new.self.items in
-    let is = listed_pushed k.members.items c.push-reserved.new.self.items n c.push-reserved.ensures.items in
+    let new = listed c.push_reserved.new.self.items in
+    let is = listed_pushed k.members.items c.push_reserved.new.self.items n c.push_reserved.ensures.items in
     let more = counted_added old new n k.sectors is c.requires.0 c.requires.1 in
     let most = counted_le new k.sectors in (
-      omega (arith, k.room, c.push-reserved.ensures.capacity),
+      omega (arith, k.room, c.push_reserved.ensures.capacity),
       (
         k.small,
         (
-          omega (arith, k.tally, c.push-reserved.ensures.len),
-          (changed_below old new n true is k.sectors c.requires.0 k.below, (omega (arith, k.tally, c.push-reserved.ensures.len), tt)),
+          omega (arith, k.tally, c.push_reserved.ensures.len),
+          (changed_below old new n true is k.sectors c.requires.0 k.below, (omega (arith, k.tally, c.push_reserved.ensures.len), tt)),
         ),
       ),
     )
 
 pub returns : goal.returns
-returns c = record { spans = refl; after = listed_pushed c.args.self.now.members.items _ c.args.n c.push-reserved.ensures.items }
+returns c = record { spans = refl; after = listed_pushed c.args.self.now.members.items _ c.args.n c.push_reserved.ensures.items }

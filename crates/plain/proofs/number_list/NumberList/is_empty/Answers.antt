@@ -7,6 +7,6 @@ pub returns : goal.returns
 returns c =
     let v = c.args.self.now.members in
     record {
-      none = λ t. none_listed v.items (omega (arith, v.ok.0, eqb-true v.len 0 (sym c.is-empty.ensures ∙ t)));
+      none = λ t. none_listed v.items (omega (arith, v.ok.0, eqb-true v.len 0 (sym c.is_empty.ensures ∙ t)));
       some = search rules;
     }

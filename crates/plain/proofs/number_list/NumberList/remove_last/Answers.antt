@@ -18,24 +18,24 @@ module _ (k : NumberList) (rest : List ℕ) (n : ℕ) (split : k.members.items �
   is : (m : ℕ) → listed rest m ≡ cond (eqb m n) false (listed k.members.items m)
   is = last_removed k.members.items rest n k.sectors split tallied
 
-pub invariant-of-self : goal.invariant-of-self
-invariant-of-self c =
+pub invariant_of-self : goal.invariant_of-self
+invariant_of-self c =
     let k = c.args.self.now in
-    let rest = c.take-last.new.self.items in
-    let n = c.take-last.result in
-    let split = c.take-last.ensures.items in
+    let rest = c.take_last.new.self.items in
+    let n = c.take_last.result in
+    let split = c.take_last.ensures.items in
     let old = listed k.members.items in
     let on = was k rest n split in
     let in' = k.below n on in
     let less = counted_removed old (listed rest) n k.sectors (is k rest n split) in' on in (
-      omega (arith, k.room, c.take-last.ensures.capacity),
+      omega (arith, k.room, c.take_last.ensures.capacity),
       (
         k.small,
         (
-          omega (arith, k.few, c.take-last.ensures.len),
+          omega (arith, k.few, c.take_last.ensures.len),
           (
             changed_below old (listed rest) n false (is k rest n split) k.sectors in' k.below,
-            (omega (arith, less, k.tally, c.take-last.ensures.len), tt),
+            (omega (arith, less, k.tally, c.take_last.ensures.len), tt),
           ),
         ),
       ),
@@ -44,7 +44,7 @@ invariant-of-self c =
 pub returns : goal.returns
 returns c =
     let k = c.args.self.now in
-    let rest = c.take-last.new.self.items in
-    let n = c.take-last.result in
-    let split = c.take-last.ensures.items in
+    let rest = c.take_last.new.self.items in
+    let n = c.take_last.result in
+    let split = c.take_last.ensures.items in
     record { member = was k rest n split; spans = refl; after = is k rest n split }

@@ -4,8 +4,8 @@ use Rattle.freespace.proofs.Counts.{counted_none}
 use Rattle.plain.specs.Members.{listed}
 use Rattle.plain.proofs.number_list.NumberList.restart.Goals as goal
 
-pub invariant-of-self : goal.invariant-of-self
-invariant-of-self c =
+pub invariant_of-self : goal.invariant_of-self
+invariant_of-self c =
     let v = c.clear.new.self in
     let off : (n : ℕ) → listed v.items n ≡ false = λ n. ap (λ ys. listed ys n) c.clear.ensures.items in (
       omega (arith, c.args.self.now.room),

@@ -5,8 +5,8 @@ use Rattle.plain.specs.Arrays.{sectors_of}
 use Rattle.plain.proofs.ArrayLaws.{below_both, sectors_set}
 use Rattle.plain.proofs.sector_array.SectorArray.put_sector.Goals as goal
 
-pub index-mut-requires : goal.index-mut-requires
-index-mut-requires c = let v = c.args.self.now.sectors in omega (arith, (below_both v.items c.args.n c.requires).1, v.ok.0)
+pub index_mut-requires : goal.index_mut-requires
+index_mut-requires c = let v = c.args.self.now.sectors in omega (arith, (below_both v.items c.args.n c.requires).1, v.ok.0)
 
 pub returns : goal.returns
 returns c =
