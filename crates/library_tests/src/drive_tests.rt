@@ -1,6 +1,5 @@
 // Whole drives.
-use crate::access::read_sector;
-use device::FlatImage;
+use device::{FlatImage, ReadingDevice, Sector};
 use drive::Drive;
 use freespace::BitMap;
 use std::alloc::Global;
@@ -56,6 +55,13 @@ fn status_tells_the_numbers_of_a_new_disk(rt: HostRuntime) -> Result<(), Fail> {
     Ok(())
 }
 
+fn sector(image: &mut FlatImage, n: u16) -> Result<Sector, Fail> {
+    match image.read(n) {
+        Ok(sector) => Ok(sector),
+        Err(_) => Err(Fail::new("the sector is not read")),
+    }
+}
+
 // FORMAT writes the map of 64 sectors, and no sector past the directory.
 #[test]
 fn format_leaves_the_rest_alone(rt: HostRuntime) -> Result<(), Fail> {
@@ -63,7 +69,7 @@ fn format_leaves_the_rest_alone(rt: HostRuntime) -> Result<(), Fail> {
     let mut drive = Drive::new(FlatImage::new(bytes), BitMap::new());
     let _ = drive.format(b"EXAM 1");
     let mut image = drive.release();
-    let map = read_sector(&mut image, 1)?;
+    let map = sector(&mut image, 1)?;
     assert_eq!(rt; map.bytes[3], 0xFF);
     assert_eq!(rt; map.bytes[4], 0x0F);
     assert_eq!(rt; map.bytes[5], 0x00);
@@ -71,9 +77,9 @@ fn format_leaves_the_rest_alone(rt: HostRuntime) -> Result<(), Fail> {
     assert_eq!(rt; map.bytes[8], 0xFF);
     assert_eq!(rt; map.bytes[127], 0xFF);
     assert_eq!(rt; map.back, 0xFFFF);
-    let last = read_sector(&mut image, 35)?;
+    let last = sector(&mut image, 35)?;
     assert_eq!(rt; last.forward, 0xFFFF);
-    let untouched = read_sector(&mut image, 36)?;
+    let untouched = sector(&mut image, 36)?;
     assert_eq!(rt; untouched.bytes[0], 7);
     assert_eq!(rt; untouched.forward, 0x0707);
     Ok(())

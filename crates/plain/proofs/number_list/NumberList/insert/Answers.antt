@@ -21,16 +21,14 @@ invariant_of-self c =
     let new = listed c.push_reserved.new.self.items in
     let is = listed_pushed k.members.items c.push_reserved.new.self.items n c.push_reserved.ensures.items in
     let more = counted_added old new n k.sectors is c.requires.0 c.requires.1 in
-    let most = counted_le new k.sectors in (
-      omega (arith, k.room, c.push_reserved.ensures.capacity),
-      (
-        k.small,
-        (
-          omega (arith, k.tally, c.push_reserved.ensures.len),
-          (changed_below old new n true is k.sectors c.requires.0 k.below, (omega (arith, k.tally, c.push_reserved.ensures.len), tt)),
-        ),
-      ),
-    )
+    let most = counted_le new k.sectors in 
+    record {
+      room = omega (arith, k.room, c.push_reserved.ensures.capacity);
+      small = k.small;
+      few = omega (arith, k.tally, c.push_reserved.ensures.len);
+      below = changed_below old new n true is k.sectors c.requires.0 k.below;
+      tally = omega (arith, k.tally, c.push_reserved.ensures.len);
+    }
 
 pub returns : goal.returns
 returns c = record { spans = refl; after = listed_pushed c.args.self.now.members.items _ c.args.n c.push_reserved.ensures.items }

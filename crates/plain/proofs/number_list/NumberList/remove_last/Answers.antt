@@ -27,19 +27,14 @@ invariant_of-self c =
     let old = listed k.members.items in
     let on = was k rest n split in
     let in' = k.below n on in
-    let less = counted_removed old (listed rest) n k.sectors (is k rest n split) in' on in (
-      omega (arith, k.room, c.take_last.ensures.capacity),
-      (
-        k.small,
-        (
-          omega (arith, k.few, c.take_last.ensures.len),
-          (
-            changed_below old (listed rest) n false (is k rest n split) k.sectors in' k.below,
-            (omega (arith, less, k.tally, c.take_last.ensures.len), tt),
-          ),
-        ),
-      ),
-    )
+    let less = counted_removed old (listed rest) n k.sectors (is k rest n split) in' on in 
+    record {
+      room = omega (arith, k.room, c.take_last.ensures.capacity);
+      small = k.small;
+      few = omega (arith, k.few, c.take_last.ensures.len);
+      below = changed_below old (listed rest) n false (is k rest n split) k.sectors in' k.below;
+      tally = omega (arith, less, k.tally, c.take_last.ensures.len);
+    }
 
 pub returns : goal.returns
 returns c =

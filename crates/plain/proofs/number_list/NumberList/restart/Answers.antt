@@ -7,16 +7,11 @@ use Rattle.plain.proofs.number_list.NumberList.restart.Goals as goal
 pub invariant_of-self : goal.invariant_of-self
 invariant_of-self c =
     let v = c.clear.new.self in
-    let off : (n : ℕ) → listed v.items n ≡ false = λ n. ap (λ ys. listed ys n) c.clear.ensures.items in (
-      omega (arith, c.args.self.now.room),
-      (
-        c.requires,
-        (
-          omega arith,
-          (
-            (λ n on. absurd (both_ways (listed v.items n) (off n) on)),
-            (c.clear.ensures.len ∙ sym (counted_none (listed v.items) c.args.sectors off), tt),
-          ),
-        ),
-      ),
-    )
+    let off : (n : ℕ) → listed v.items n ≡ false = λ n. ap (λ ys. listed ys n) c.clear.ensures.items in 
+    record {
+      room = omega (arith, c.args.self.now.room);
+      small = c.requires;
+      few = omega arith;
+      below = λ n on. absurd (both_ways (listed v.items n) (off n) on);
+      tally = c.clear.ensures.len ∙ sym (counted_none (listed v.items) c.args.sectors off);
+    }

@@ -1,11 +1,11 @@
 // Images examined: whether each is sound, and what a sound one holds.
-use crate::exam::{print_exchange, push, sector_bytes};
+use crate::exam::{print_answer_below, print_usage_below, sector_bytes};
 use anyhow::anyhow;
 use chains::{FileEntry, file_at};
 use device::{Code, FlatImage, FlatReader, ReadingDevice};
-use drive::{Answer, Request, examine, run};
+use drive::{Answer, Drive, Request, examine};
 use freespace::{BitMap, SectorAllocator};
-use report::{answer_line, file_line, hex_line, size_line};
+use report::{answer_line, file_line, hex_line, request_line, size_line};
 use std::fs;
 
 pub(crate) fn read_image(rt: &HostRuntime, path: &str) -> anyhow::Result<Vec<u8>> {
@@ -66,15 +66,17 @@ fn examine_image(rt: &HostRuntime, path: &str, image: &FlatImage) -> anyhow::Res
 // A sound image in a drive: its usage, and the bytes of its map about the first free sectors.
 fn initialize_image(rt: &HostRuntime, path: &str, image: FlatImage) -> anyhow::Result<()> {
     let heap = rt.alloc();
-    let mut exchanges = Vec::new(heap);
-    push(heap, &mut exchanges, Request::Initialize)?;
-    push(heap, &mut exchanges, Request::Status)?;
-    let drive = run(image, BitMap::new(), exchanges.as_mut_slice());
+    let mut drive = Drive::new(image, BitMap::new());
+    let answer = drive.initialize();
+    let (status, usage) = drive.status();
     let mut image = drive.release();
     println!(rt; "\n{path} in a drive:")?;
-    for exchange in exchanges.iter() {
-        print_exchange(rt, exchange)?;
-    }
+    println!(rt; "INITIALIZE")?;
+    print_answer_below(rt, &answer)?;
+    let asked = request_line(heap, &Request::Status)?;
+    println!(rt; "{asked}")?;
+    print_answer_below(rt, &status)?;
+    print_usage_below(rt, &usage)?;
     let map = sector_bytes(heap, &mut image, 1..2)?;
     if map.len() > 8 {
         let line = hex_line(heap, 4, &map[4..9])?;

@@ -1,6 +1,6 @@
 // The exam: a list of requests, served on a disk image and on other devices.
 use device::{FlatImage, JoinedPair, ReadingDevice, Skewed, place};
-use drive::{Exchange, Reported, Request, reopen, run};
+use drive::{Answer, Exchange, Reported, Request, Usage, reopen, run};
 use freespace::{BitMap, FreeList, SectorAllocator};
 use report::{
     answer_line, hex_lines, link_line, map_lines, place_line, request_line, same_answers,
@@ -9,7 +9,7 @@ use report::{
 use std::alloc::Global;
 use std::ops::Range;
 
-pub(crate) fn push(heap: Global, list: &mut Vec<Exchange>, request: Request) -> anyhow::Result<()> {
+fn push(heap: Global, list: &mut Vec<Exchange>, request: Request) -> anyhow::Result<()> {
     list.push(Exchange::new(request, Vec::new(heap)))?;
     Ok(())
 }
@@ -35,15 +35,24 @@ fn exam_requests(heap: Global) -> anyhow::Result<Vec<Exchange>> {
     Ok(list)
 }
 
-pub(crate) fn print_exchange(rt: &HostRuntime, exchange: &Exchange) -> anyhow::Result<()> {
-    let heap = rt.alloc();
-    let asked = request_line(heap, &exchange.request)?;
-    let answer = answer_line(heap, &exchange.answer)?;
+pub(crate) fn print_answer_below(rt: &HostRuntime, answer: &Answer) -> anyhow::Result<()> {
+    let line = answer_line(rt.alloc(), answer)?;
+    println!(rt; "  {line}")?;
+    Ok(())
+}
+
+pub(crate) fn print_usage_below(rt: &HostRuntime, usage: &Usage) -> anyhow::Result<()> {
+    let numbers = usage_line(rt.alloc(), usage)?;
+    println!(rt; "  {numbers}")?;
+    Ok(())
+}
+
+fn print_exchange(rt: &HostRuntime, exchange: &Exchange) -> anyhow::Result<()> {
+    let asked = request_line(rt.alloc(), &exchange.request)?;
     println!(rt; "{asked}")?;
-    println!(rt; "  {answer}")?;
+    print_answer_below(rt, &exchange.answer)?;
     if let Reported::Usage(usage) = exchange.reported {
-        let numbers = usage_line(heap, &usage)?;
-        println!(rt; "  {numbers}")?;
+        print_usage_below(rt, &usage)?;
     }
     Ok(())
 }
