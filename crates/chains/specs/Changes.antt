@@ -1,5 +1,5 @@
 -- How the parts of a disk that shows a layout are found, and what they are after a change.
-use Rattle.std.specs.Prelude.{◌≡◌, ℕ, ◌+◌, Bool, cond, List, [], ◌∷◌, length, get_or, Some, None, Option}
+use Rattle.std.specs.Prelude.{◌≡◌, ℕ, ◌+◌, Bool, cond, List, [], ◌∷◌, length, Some, None, Option}
 use Rattle.device.specs.declared.sector.Sector.{Sector}
 use Rattle.chains.specs.declared.lookup.Located.{Located}
 use Rattle.chains.specs.declared.lookup.Lookup.{Lookup}

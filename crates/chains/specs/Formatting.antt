@@ -1,5 +1,5 @@
 -- What making a new disk answers, and what it leaves.
-use Rattle.std.specs.Prelude.{ℕ, cond, ◌&&◌, List, length, Ok, Err, Result}
+use Rattle.std.specs.Prelude.{ℕ, cond, ◌&&◌, List, length, Err, Result}
 use Rattle.device.specs.declared.fault.Fault.{Fault}
 use Rattle.device.specs.declared.fault.Code.TheVariants.{BadLabel}
 use Rattle.device.specs.declared.fault.Layer.TheVariants.{Structure}

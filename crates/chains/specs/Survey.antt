@@ -1,5 +1,5 @@
 -- Reading a disk as the code does it: the sectors met and the names seen are tests, files are only counted, and no layout is built.
-use Rattle.std.specs.Prelude.{◌≡◌, ℕ, zero, suc, ◌+◌, ◌/◌, Bool, true, false, cond, not, ◌&&◌, ◌||◌, List, [], ◌∷◌, ◌++◌, map, length, take, drop, replicate, Ok, Err, Result, ◌==◌, nat_le, nat_lt, slice_index}
+use Rattle.std.specs.Prelude.{◌≡◌, ℕ, zero, suc, ◌+◌, ◌/◌, Bool, true, false, cond, not, ◌&&◌, ◌||◌, List, ◌∷◌, ◌++◌, length, take, drop, replicate, Ok, Err, Result, ◌==◌, nat_le, nat_lt, slice_index}
 use Rattle.device.specs.declared.sector.Sector.{Sector}
 use Rattle.device.specs.Codes.{code_number}
 use Rattle.device.specs.declared.fault.Code.{Code}

@@ -1,4 +1,6 @@
 // The structure of a disk: names, label, map, directory and chains of records.
+#![tactic(auto)]
+
 mod bytes;
 mod checks;
 mod descriptor;

@@ -1,4 +1,6 @@
 // Devices: numbered sectors behind a door, and their meaning.
+#![tactic(auto)]
+
 mod fault;
 mod flat_image;
 mod flat_reader;

@@ -13,7 +13,7 @@ use Rattle.freespace.specs.Sets.{counted}
 use Rattle.chains.specs.Layout.{Layout}
 use Rattle.rules.specs.Model.{Model, Outcome, Request, Initialize, Door, Tab, Status, closed, done, free_count, with_door, with_tab}
 use Rattle.rules.specs.Effects.{layout_after}
-use Rattle.rules.specs.Runs.{View, Call, Told, told, supplied_by}
+use Rattle.rules.specs.Runs.{told}
 use Rattle.rules.specs.Served.{ReadsOnlySound, outcome}
 use Rattle.rules.proofs.Laying.{laid_agrees, starts_laid}
 use Rattle.drive.specs.declared.answer.Answer.{Answer}
@@ -22,7 +22,7 @@ use Rattle.drive.specs.declared.request.Usage.{Usage}
 use Rattle.drive.specs.Checks.{plain_fault}
 use Rattle.drive.specs.Exchanges.{Fresh}
 use Rattle.drive.specs.Parts.{Sets, done_answer, from_fault, own_usage}
-use Rattle.drive.specs.Serves.{Represents, Serving, ServesAlone, model_of, view, told_by}
+use Rattle.drive.specs.Serves.{Represents, Serving, ServesAlone, view, told_by}
 use Rattle.drive.specs.Units.{unit_of}
 use Rattle.drive.proofs.Steps.{idle_effect, served, turned_down}
 

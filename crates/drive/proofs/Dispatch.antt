@@ -1,5 +1,5 @@
 -- From the promise of one call to that of the exchange that asked for it.
-use Rattle.std.proofs.Common.{◌≡◌, ℕ, vec_items, sym, ◌∙◌, subst}
+use Rattle.std.proofs.Common.{◌≡◌, vec_items, sym, ◌∙◌, subst}
 use Rattle.device.specs.declared.reading.ReadingDevice.{Ghosts as Reading}
 use Rattle.freespace.specs.declared.allocator.SectorAllocator.{Ghosts as Allocating}
 use Rattle.drive.specs.declared.answer.Answer.{Answer}

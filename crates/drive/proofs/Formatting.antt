@@ -1,24 +1,22 @@
 -- The promise of FORMAT, from what its code does.
-use Rattle.std.proofs.Common.{◌≡◌, ℕ, Bool, true, false, cond, not, ◌&&◌, ltb, leb, List, [], ◌∷◌, map, length, Ok, Err, Result, sym, refl, ap, ◌∙◌, subst, arith}
+use Rattle.std.proofs.Common.{◌≡◌, ℕ, Bool, true, false, cond, not, ◌&&◌, ltb, leb, List, [], map, length, Ok, Err, Result, sym, refl, ap, ◌∙◌, arith}
 use Rattle.std.proofs.lemmas.List.{length-map}
 use Rattle.std.proofs.lemmas.Bool.{and_parts, false≢true, not-false}
-use Rattle.device.specs.Codes.{code_number, layer_number}
 use Rattle.device.specs.Device.{Medium}
 use Rattle.device.specs.declared.fault.Fault.{Fault}
 use Rattle.device.specs.declared.reading.ReadingDevice.{Ghosts as Reading}
 use Rattle.freespace.specs.declared.allocator.SectorAllocator.{Ghosts as Allocating}
-use Rattle.chains.specs.Layout.{Disk, Layout, formatted, reserved, sized, overwritten, fixed_sectors}
+use Rattle.chains.specs.Layout.{Disk, formatted, reserved, sized, overwritten, fixed_sectors}
 use Rattle.chains.specs.Formatting.{formatted_disk, formatted_medium}
-use Rattle.rules.specs.Model.{Model, Outcome, Check, Format, any, done, started, some_open}
+use Rattle.rules.specs.Model.{Model, Check, Format, any, done, started, some_open}
 use Rattle.rules.specs.Laid.{Spares}
 use Rattle.rules.specs.Runs.{Call, told}
 use Rattle.rules.specs.Served.{outcome}
 use Rattle.drive.specs.declared.answer.Answer.{Answer}
 use Rattle.drive.specs.declared.drive.Drive.{Drive}
-use Rattle.drive.specs.declared.units.State.{State}
 use Rattle.drive.specs.Checks.{first_fault, format_checks}
 use Rattle.drive.specs.Parts.{Formats, done_answer, formatted_state, from_fault, own_checks}
-use Rattle.drive.specs.Serves.{Represents, Serving, ServesAlone, view, told_by}
+use Rattle.drive.specs.Serves.{Represents, ServesAlone, view, told_by}
 use Rattle.drive.specs.Units.{any_open, is_open, unit_of}
 use Rattle.drive.proofs.Refusals.{by_fault, refusal_by_fault, no_sector}
 use Rattle.drive.proofs.Steps.{served, turned_down}

@@ -2,10 +2,9 @@
 use Rattle.std.proofs.Common.{◌≡◌, ℕ, suc, Bool, true, false, cond, not, ◌&&◌, ltb, leb, List, [], ◌∷◌, map, length, Some, None, Ok, Err, Option, Result, sym, refl, ap, ◌∙◌, subst, arith}
 use Rattle.std.specs.List.{AllByRecursion as All}
 use Rattle.std.proofs.lemmas.Bool.{false≢true}
-use Rattle.device.specs.Codes.{code_number, layer_number}
+use Rattle.device.specs.Codes.{layer_number}
 use Rattle.device.specs.Device.{Medium, WellFormed}
 use Rattle.device.specs.declared.fault.Fault.{Fault}
-use Rattle.device.specs.declared.fault.Layer.TheVariants.{Structure}
 use Rattle.device.specs.declared.reading.ReadingDevice.{Ghosts as Reading}
 use Rattle.freespace.specs.declared.allocator.SectorAllocator.{Ghosts as Allocating}
 use Rattle.chains.specs.Layout.{Layout, Entry, reserved, sized, member, numbers, chains}
@@ -14,17 +13,15 @@ use Rattle.chains.specs.Scans.{DiskRead, Shows}
 use Rattle.chains.specs.Sound.{entries}
 use Rattle.chains.specs.Survey.{Tells}
 use Rattle.chains.specs.declared.survey.Survey.{Survey}
-use Rattle.rules.specs.Model.{Model, Outcome, Check, Initialize, any, done, started, some_open, read_in, faulty, sound}
+use Rattle.rules.specs.Model.{Model, Outcome, Initialize, any, done, started, some_open, read_in, faulty}
 use Rattle.rules.specs.Laid.{Laid, Spares}
-use Rattle.rules.specs.Matching.{Rearranged}
-use Rattle.rules.specs.Runs.{Call, as_reading, files_in, supplied_by, told}
-use Rattle.rules.specs.Served.{Effect, ReadsOnlySound, outcome}
+use Rattle.rules.specs.Runs.{Call, as_reading, files_in, told}
+use Rattle.rules.specs.Served.{ReadsOnlySound, outcome}
 use Rattle.rules.proofs.Laying.{closed_sound, takes_sound}
 use Rattle.rules.proofs.OnlySound.{only}
 use Rattle.rules.proofs.Rearranging.{as_long}
 use Rattle.drive.specs.declared.answer.Answer.{Answer}
 use Rattle.drive.specs.declared.drive.Drive.{Drive}
-use Rattle.drive.specs.declared.units.State.{State}
 use Rattle.drive.specs.Checks.{first_fault, initialize_checks}
 use Rattle.drive.specs.Parts.{Initializes, ReadsIn, TakesOver, TurnsAway, done_answer, from_fault, forgotten, own_initialize_checks, started_state, unread_state}
 use Rattle.drive.specs.Serves.{Represents, Serving, ServesAlone, view, told_by}

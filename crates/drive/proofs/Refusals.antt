@@ -1,5 +1,5 @@
 -- The first check that applies, as the model's outcome and as a fault.
-use Rattle.std.proofs.Common.{◌≡◌, ℕ, Bool, true, false, cond, List, [], ◌∷◌, Ok, Err, Result, sym, refl, ap, ◌∙◌, arith}
+use Rattle.std.proofs.Common.{◌≡◌, ℕ, Bool, true, false, cond, List, [], ◌∷◌, Ok, Err, Result, sym, refl, ap, arith}
 use Rattle.device.specs.declared.fault.Fault.{Fault}
 use Rattle.rules.specs.Model.{Model, Outcome, Check, refusal, first_refusal_or}
 use Rattle.drive.specs.Checks.{plain_fault, first_fault}

@@ -1,19 +1,18 @@
 -- A new drive over what a run left.
-use Rattle.std.proofs.Common.{◌≡◌, ℕ, Bool, false, List, [], ◌∷◌, length, sym, refl, ap, ◌∙◌, subst}
+use Rattle.std.proofs.Common.{◌≡◌, Bool, [], ◌∷◌, length, sym, ap, ◌∙◌, subst}
 use Rattle.device.specs.Codes.{code_number}
 use Rattle.device.specs.Device.{Medium}
 use Rattle.device.specs.declared.fault.Code.TheVariants.{Done}
 use Rattle.device.specs.declared.reading.ReadingDevice.{Ghosts as Reading}
 use Rattle.freespace.specs.declared.allocator.SectorAllocator.{Ghosts as Allocating}
-use Rattle.chains.specs.Layout.{Disk}
 use Rattle.rules.specs.Model.{Model, Outcome, Initialize, find, new_model, response}
-use Rattle.rules.specs.Runs.{Call, LeftClosed, Reopens, Run, SameFiles, none, more, new_view, supplied_by, told}
+use Rattle.rules.specs.Runs.{Call, LeftClosed, Reopens, Run, SameFiles, none, more, supplied_by}
 use Rattle.rules.specs.Served.{outcome}
 use Rattle.rules.proofs.Leaving.{leaves_reopenable}
 use Rattle.drive.specs.declared.answer.Answer.{Answer}
 use Rattle.drive.specs.declared.drive.Drive.{Drive}
 use Rattle.drive.specs.Exchanges.{Fresh, Reopened}
-use Rattle.drive.specs.Serves.{Represents, Serving, ServesAlone, model_of, view, told_by}
+use Rattle.drive.specs.Serves.{Serving, ServesAlone, model_of, view, told_by}
 
 -- INITIALIZE of a new drive over this medium
 abbrev initialized : Medium → Outcome

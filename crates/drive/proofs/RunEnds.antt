@@ -4,11 +4,11 @@ use Rattle.std.proofs.lemmas.List.{length-set, map-append, take_all, take_more, 
 use Rattle.device.specs.declared.reading.ReadingDevice.{Ghosts as Reading}
 use Rattle.freespace.specs.declared.allocator.SectorAllocator.{Ghosts as Allocating}
 use Rattle.rules.specs.Model.{Model, Outcome}
-use Rattle.rules.specs.Runs.{View, Call, Told, Step, Run, none, more, told}
+use Rattle.rules.specs.Runs.{View, Call, Step, Run, none, more, told}
 use Rattle.rules.specs.Served.{outcome}
 use Rattle.drive.specs.declared.drive.Drive.{Drive}
 use Rattle.drive.specs.declared.request.Exchange.{Exchange}
-use Rattle.drive.specs.Serves.{Represents, Serving, model_of, view}
+use Rattle.drive.specs.Serves.{model_of, view}
 use Rattle.drive.specs.Exchanges.{call_of, told_of, ServingAll, ServesExchange, ServesNext, ServesAll, ServedTo, SameRequests, RunsIfFresh}
 
 run_more : {b c : Model} {v v' v'' : View} {qs : List Call} {os : List Outcome} {q : Call} {o : Outcome} → Run b v qs os c v' → Step c v' q o v'' → Run b v (qs ++ q ∷ []) (os ++ o ∷ []) o.after v''

@@ -4,7 +4,6 @@ use Rattle.device.specs.declared.fault.Code.{Code}
 use Rattle.device.specs.declared.fault.Code.TheVariants as code
 use Rattle.device.specs.declared.fault.Fault.{Fault}
 use Rattle.device.specs.declared.fault.Layer.{Layer}
-use Rattle.device.specs.declared.fault.Layer.TheVariants as layer
 use Rattle.chains.specs.Layout.{sized}
 use Rattle.chains.specs.Names.{legal_id}
 use Rattle.rules.specs.Model.{Check, request_check, door_check, tab_check}

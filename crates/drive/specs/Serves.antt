@@ -1,10 +1,10 @@
 -- What a drive shows, which models represent it, and what serving one call promises.
-use Rattle.std.specs.Prelude.{◌≡◌, ℕ, Bool, true, List, map, length}
+use Rattle.std.specs.Prelude.{◌≡◌, ℕ, true, List, map, length}
 use Rattle.device.specs.declared.reading.ReadingDevice.{Ghosts as Reading}
 use Rattle.device.specs.Codes.{code_number, layer_number}
 use Rattle.device.specs.Device.{Medium}
 use Rattle.freespace.specs.declared.allocator.SectorAllocator.{Ghosts as Allocating}
-use Rattle.rules.specs.Model.{Model, Request, Outcome, new_model}
+use Rattle.rules.specs.Model.{Model, Request, new_model}
 use Rattle.rules.specs.Runs.{View, Call, Step, Told, told}
 use Rattle.rules.specs.Served.{Tallies, outcome}
 use Rattle.drive.specs.declared.answer.Answer.{Answer}

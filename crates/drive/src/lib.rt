@@ -1,4 +1,6 @@
 // A drive: the requests of a Z80 machine, served over any device and any allocator of free sectors.
+#![tactic(auto)]
+
 mod answer;
 mod drive;
 mod erase;

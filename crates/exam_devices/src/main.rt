@@ -1,4 +1,6 @@
 // Formats an exam disk as exam_disk does, reads it again, serves the same list over other devices, and examines disk images.
+#![tactic(auto)]
+
 mod exam;
 mod images;
 

@@ -1,4 +1,6 @@
 // Formats an exam disk and prints what the drive answered and what stands on the disk.
+#![tactic(auto)]
+
 use anyhow::anyhow;
 use device::{FlatImage, ReadingDevice, WritingDevice};
 use drive::{Exchange, Reported, Request, run};

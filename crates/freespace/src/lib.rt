@@ -1,4 +1,6 @@
 // Free space: the sectors of a disk that no file uses, and the tokens of those that were taken.
+#![tactic(auto)]
+
 mod allocated;
 mod allocator;
 mod bit_map;

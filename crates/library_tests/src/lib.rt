@@ -1,3 +1,5 @@
+#![tactic(auto)]
+
 // The tests of all libraries, in a crate of their own: a crate with tests is proved once more for them.
 #[cfg(test)]
 mod access;

@@ -1,4 +1,6 @@
 // Who holds a device and a taken sector: a drive takes its device and hands it back, and a taken sector is given back.
+#![tactic(auto)]
+
 use device::{FlatImage, ReadingDevice};
 use drive::Drive;
 use freespace::{BitMap, SectorAllocator, fill_from};

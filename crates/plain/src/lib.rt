@@ -1,4 +1,6 @@
 // A plain device and a plain allocator: the traits of `device` and `freespace`, implemented from outside.
+#![tactic(auto)]
+
 mod number_list;
 mod sector_array;
 

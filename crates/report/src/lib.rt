@@ -1,4 +1,6 @@
 // The text of answers, requests, sectors and the map.
+#![tactic(auto)]
+
 mod compare;
 mod digits;
 mod dumps;

@@ -8,7 +8,7 @@ use Rattle.device.specs.declared.fault.Layer.{Layer}
 use Rattle.device.specs.declared.fault.Layer.TheVariants as layer
 use Rattle.chains.specs.Names.{legal, legal_id}
 use Rattle.chains.specs.Layout.{sized}
-use Rattle.rules.specs.Model.{Model, Supplied, Request, Format, Initialize, Open, Close, Rewind, Read, Write, WriteCurrent, Delete, ReadPrevious, SkipForward, SkipBackward, Erase, Outcome, Check, closed, find, records_of, without, is_closed, has_name, any, state, name_of, kind_of, cursor_of, free_count, done, answered, refusal, adding, request_check, door_check, tab_check, space_check, first_refusal_or, unit_checks, revised, rounded, joined, cut, started, read_in, opened, updated, moved_to, response}
+use Rattle.rules.specs.Model.{Model, Supplied, Format, Initialize, Open, Close, Rewind, Read, Write, WriteCurrent, Delete, ReadPrevious, SkipForward, SkipBackward, Erase, Outcome, Check, closed, find, records_of, without, is_closed, has_name, any, state, name_of, kind_of, cursor_of, free_count, done, answered, refusal, adding, request_check, door_check, tab_check, space_check, first_refusal_or, unit_checks, revised, rounded, joined, cut, started, read_in, opened, updated, moved_to, response}
 
 -- what is not refused passed every check
 pub passed : (b : Model) (buf : List ℕ) (cs : List Check) (o : Outcome) → (first_refusal_or b buf cs o).refused ≡ false →

@@ -1,5 +1,5 @@
 -- Every call that is not refused keeps the disk laid out as the model says.
-use Rattle.std.proofs.Common.{◌≡◌, ℕ, Bool, true, false, cond, not, ◌&&◌, eqb, ltb, leb, List, ◌++◌, map, length, is_some, Some, None, Option, unwrap_or, sym, refl, ap, ◌∙◌, subst}
+use Rattle.std.proofs.Common.{◌≡◌, ℕ, Bool, true, false, cond, not, ◌&&◌, eqb, ltb, leb, List, ◌++◌, length, is_some, Some, None, Option, unwrap_or, sym, refl, ap, ◌∙◌, subst}
 use Rattle.chains.specs.Layout.{Disk, Layout, fixed_sectors, Contains, label_and_map, directory, chains, reserved, member, numbers}
 use Rattle.rules.specs.Model.{Model, Request, Format, Initialize, Door, Tab, Status, Open, Close, Rewind, Read, Write, WriteCurrent, Delete, ReadCurrent, ReadPrevious, SkipForward, SkipBackward, Erase, sound, find, new_model, response}
 use Rattle.rules.specs.Effects.{layout_after}

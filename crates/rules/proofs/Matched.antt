@@ -1,5 +1,5 @@
 -- Every call that is not refused keeps the model and the layout matched.
-use Rattle.std.proofs.Common.{◌≡◌, ℕ, ◌-◌, true, List, refl, arith}
+use Rattle.std.proofs.Common.{◌≡◌, ℕ, true, List, refl, arith}
 use Rattle.std.proofs.lemmas.Bool.Decides.{nat_tests}
 use Rattle.chains.specs.Layout.{Layout}
 use Rattle.rules.specs.Model.{Model, Supplied, Format, Initialize, Door, Tab, Status, Open, Close, Rewind, Read, Write, WriteCurrent, Delete, ReadCurrent, ReadPrevious, SkipForward, SkipBackward, Erase, response}

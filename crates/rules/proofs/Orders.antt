@@ -3,7 +3,7 @@ use Rattle.std.proofs.Common.{◌≡◌, ℕ, ◌+◌, ◌-◌, ◌<◌, ◌≤�
 use Rattle.std.proofs.lemmas.Bool.{both_ways, or_parts, and_parts, leb-true, le-leb, ltb-false}
 use Rattle.std.proofs.lemmas.List.{length-append, length-take, length-drop, length-set}
 use Rattle.chains.specs.Names.{same}
-use Rattle.rules.specs.Model.{Model, File, UnitState, Reading, Supplied, faulty, sound, Format, Initialize, Door, Tab, Status, Open, Close, Rewind, Read, Write, WriteCurrent, Delete, ReadCurrent, ReadPrevious, SkipForward, SkipBackward, Erase, closed, holds, find, records_of, with_records, without, is_closed, has_name, any, state, name_of, kind_of, cursor_of, cut, started, read_in, made, emptied, opened, updated, with_unit, moved_to, response}
+use Rattle.rules.specs.Model.{Model, File, UnitState, Reading, Supplied, faulty, sound, Format, Initialize, Door, Tab, Status, Open, Close, Rewind, Read, Write, WriteCurrent, Delete, ReadCurrent, ReadPrevious, SkipForward, SkipBackward, Erase, closed, holds, find, records_of, with_records, without, is_closed, has_name, any, state, name_of, kind_of, cursor_of, cut, started, read_in, made, emptied, updated, with_unit, moved_to, response}
 use Rattle.rules.specs.Matching.{Orderly, seated, StaysOrderly}
 use Rattle.rules.proofs.Rearranging.{same_eq}
 use Rattle.rules.proofs.Changes.{length_cut}

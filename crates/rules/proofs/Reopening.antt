@@ -1,5 +1,5 @@
 -- The first FORMAT or INITIALIZE, what a sound disk reopens to, and the sectors that free space may give.
-use Rattle.std.proofs.Common.{◌≡◌, ℕ, Bool, true, false, cond, not, ◌&&◌, ltb, leb, List, [], map, length, unwrap_or, sym, refl, ap, ◌∙◌, subst}
+use Rattle.std.proofs.Common.{◌≡◌, ℕ, Bool, true, false, cond, not, ◌&&◌, ltb, leb, List, [], length, unwrap_or, sym, refl, ap, ◌∙◌, subst}
 use Rattle.std.proofs.lemmas.Bool.{both_ways, and_parts, and_from, not-true}
 use Rattle.std.proofs.ByRecursion.{All-weaker}
 use Rattle.chains.specs.Layout.{Disk, Layout, sized, reserved, member, numbers, chains, fixed_sectors, Contains}

@@ -1,5 +1,5 @@
 -- No call changes the size, and only FORMAT and INITIALIZE initialise.
-use Rattle.std.proofs.Common.{◌≡◌, ℕ, ◌-◌, Bool, true, false, cond, eqb, List, [], ◌∷◌, length, is_some, refl, ◌∙◌, arith}
+use Rattle.std.proofs.Common.{◌≡◌, ℕ, Bool, true, false, cond, eqb, List, [], ◌∷◌, length, is_some, refl, ◌∙◌, arith}
 use Rattle.std.proofs.lemmas.Bool.Decides.{nat_tests}
 use Rattle.rules.specs.Model.{Model, Reading, Supplied, faulty, sound, Request, Format, Initialize, Door, Tab, Status, Open, Close, Rewind, Read, Write, WriteCurrent, Delete, ReadCurrent, ReadPrevious, SkipForward, SkipBackward, Erase, Outcome, Check, holds, find, records_of, first_refusal_or, refusal, adding, done, with_unit, emptied, made, opened, response}
 use Rattle.rules.proofs.Accepted.{open_checks}

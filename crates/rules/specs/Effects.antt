@@ -1,5 +1,5 @@
 -- How each call that writes changes the layout of the disk. Only the sectors taken from free space are left open.
-use Rattle.std.specs.Prelude.{ℕ, zero, suc, ◌+◌, ◌-◌, min, max, cond, List, [], ◌∷◌, ◌++◌, map, length, take, drop, Some, None, Option, ◌==◌, slice_index}
+use Rattle.std.specs.Prelude.{ℕ, zero, suc, ◌+◌, ◌-◌, min, max, cond, List, [], ◌∷◌, ◌++◌, length, take, drop, Some, None, Option, ◌==◌, slice_index}
 use Rattle.chains.specs.Names.{same}
 use Rattle.chains.specs.Layout.{Layout, Entry, Placed, allocated, map_bytes, formatted, record_bytes}
 use Rattle.rules.specs.Model.{Model, Request, Format, Initialize, Door, Tab, Status, Open, Close, Rewind, Read, Write, WriteCurrent, Delete, ReadCurrent, ReadPrevious, SkipForward, SkipBackward, Erase, state, name_of, cursor_of, present, cut}

@@ -1,5 +1,7 @@
 // The rules of all calls, and what holds of them over any list of calls. No code of a drive stands here: the specs are
 // the rules, and each function below only carries a theorem about them in its contract.
+#![tactic(auto)]
+
 ghost use Rattle.chains.specs.Sound.{ReadingIsExact};
 ghost use Rattle.rules.specs.Examples.{WorkedExamples};
 ghost use Rattle.rules.specs.Matching.{AddsFew, EnoughUnused, StartsUnread, StaysUnread};

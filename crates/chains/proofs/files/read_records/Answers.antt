@@ -2,7 +2,6 @@ use Rattle.std.proofs.Common.{Ok, Result, sym, refl, subst, rules}
 use Rattle.device.specs.declared.fault.Fault.{Fault}
 use Rattle.freespace.specs.Bits.{bit_of}
 use Rattle.chains.specs.Layout.{Disk}
-use Rattle.chains.specs.Names.{same}
 use Rattle.chains.specs.NameBytes.{name_bytes}
 use Rattle.chains.specs.Scans.{Scans, seen_of}
 use Rattle.chains.specs.Survey.{Seen}

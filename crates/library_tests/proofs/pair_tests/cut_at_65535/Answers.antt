@@ -1,4 +1,4 @@
-use Rattle.std.proofs.Common.{◌≡◌, ◌≤◌, false, ltb, length, refl, arith}
+use Rattle.std.proofs.Common.{◌≡◌, false, ltb, length, arith}
 use Rattle.std.proofs.lemmas.Bool.{le-ltb}
 use Rattle.device.specs.Device.{Medium}
 use Rattle.device.specs.Joined.{joined}

@@ -1,4 +1,4 @@
-use Rattle.std.proofs.Common.{◌≡◌, length, drop}
+use Rattle.std.proofs.Common.{◌≡◌, drop}
 use Rattle.report.specs.Alike.{same_answers}
 use Rattle.report.proofs.compare.same_answers.Given as goal
 

@@ -15,7 +15,7 @@ invariant_of-self c =
     let at : n / 8 < length k.bits = omega (arith, k.long, k.small) in
     let is = bits_set k.bits n b true at c.with_bit.ensures in
     let old = bit_of k.bits in
-    let new = bit_of (set k.bits (n / 8) b) in 
+    let new = bit_of (set k.bits (n / 8) b) in
     record {
       long = length-set k.bits (n / 8) b ∙ k.long;
       small = k.small;

@@ -1,4 +1,4 @@
-use Rattle.std.proofs.Common.{◌≡◌, ◌+◌, ◌<◌, ◌≤◌, ⊎_elim, arith, rules}
+use Rattle.std.proofs.Common.{◌+◌, ◌<◌, ◌≤◌, ⊎_elim, arith, rules}
 use Rattle.std.proofs.lemmas.Bool.{cases_lt, ltb-true, le-ltb}
 use Rattle.freespace.specs.Links.{link}
 use Rattle.freespace.proofs.free_list.FreeList.is_empty.Goals as goal

@@ -1,7 +1,7 @@
-use Rattle.std.proofs.Common.{◌+◌, ◌<◌, ◌≤◌, true, set, ◌∙◌, arith, length-set}
+use Rattle.std.proofs.Common.{◌+◌, set, ◌∙◌, arith, length-set}
 use Rattle.freespace.specs.Links.{link, linked}
 use Rattle.freespace.proofs.Counts.{counted_le, counted_added}
-use Rattle.freespace.proofs.LinkLaws.{Chained, Changed, linked_in}
+use Rattle.freespace.proofs.LinkLaws.{Chained, linked_in}
 use Rattle.freespace.proofs.free_list.FreeList.link_after.Goals as goal
 
 pub overflow_add-self-3 : goal.overflow_add-self-3
@@ -16,7 +16,7 @@ invariant_of-self c =
     let done = linked_in k.next k.sectors chain (omega (arith, k.long, k.small)) p n c.requires.0 c.requires.1 in
     let ch = done.chain in
     let mid = set k.next (n + 1) (link k.next p) in
-    let new = set mid p (n + 1) in 
+    let new = set mid p (n + 1) in
     record {
       long = length-set mid p (n + 1) ∙ length-set k.next (n + 1) (link k.next p) ∙ k.long;
       small = k.small;

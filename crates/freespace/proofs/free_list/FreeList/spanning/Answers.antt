@@ -1,4 +1,4 @@
-use Rattle.std.proofs.Common.{◌≡◌, ℕ, ◌+◌, false, ltb, set, sym, ap, ◌∙◌, arith, length-set, get_or-set_other, get_or-set_same}
+use Rattle.std.proofs.Common.{◌≡◌, ℕ, ◌+◌, ltb, set, sym, ap, ◌∙◌, arith, length-set, get_or-set_other, get_or-set_same}
 use Rattle.freespace.specs.Links.{link, linked}
 use Rattle.freespace.proofs.Counts.{counted_none}
 use Rattle.freespace.proofs.LinkLaws.{chained_none}
@@ -11,7 +11,7 @@ invariant_of-result c =
     let long = c.no_links-next.ensures.long in
     let next = set none 0 (s + 1) in
     let rest : (p : ℕ) → (p ≡ 0 → ⊥) → link next p ≡ 0 = λ p ne. get_or-set_other none 0 p (s + 1) 0 ne ∙ c.no_links-next.ensures.empty p in
-    let ch = chained_none (link next) s (get_or-set_same none 0 (s + 1) 0 (omega arith)) rest in 
+    let ch = chained_none (link next) s (get_or-set_same none 0 (s + 1) 0 (omega arith)) rest in
     record {
       long = length-set none 0 (s + 1) ∙ long;
       small = c.requires;

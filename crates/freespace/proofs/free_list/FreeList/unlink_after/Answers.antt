@@ -29,7 +29,7 @@ invariant_of-self c =
     let k = c.args.self.now in
     let p = c.args.before in
     let ch = (done k p c.requires.0 c.requires.1).chain in
-    let mid = set k.next p (link k.next (link k.next p)) in 
+    let mid = set k.next p (link k.next (link k.next p)) in
     record {
       long = length-set mid (link k.next p) 0 ∙ length-set k.next p (link k.next (link k.next p)) ∙ k.long;
       small = k.small;

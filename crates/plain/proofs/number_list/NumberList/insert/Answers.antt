@@ -21,7 +21,7 @@ invariant_of-self c =
     let new = listed c.push_reserved.new.self.items in
     let is = listed_pushed k.members.items c.push_reserved.new.self.items n c.push_reserved.ensures.items in
     let more = counted_added old new n k.sectors is c.requires.0 c.requires.1 in
-    let most = counted_le new k.sectors in 
+    let most = counted_le new k.sectors in
     record {
       room = omega (arith, k.room, c.push_reserved.ensures.capacity);
       small = k.small;

@@ -27,7 +27,7 @@ invariant_of-self c =
     let old = listed k.members.items in
     let on = was k rest n split in
     let in' = k.below n on in
-    let less = counted_removed old (listed rest) n k.sectors (is k rest n split) in' on in 
+    let less = counted_removed old (listed rest) n k.sectors (is k rest n split) in' on in
     record {
       room = omega (arith, k.room, c.take_last.ensures.capacity);
       small = k.small;

@@ -7,7 +7,7 @@ use Rattle.plain.proofs.number_list.NumberList.restart.Goals as goal
 pub invariant_of-self : goal.invariant_of-self
 invariant_of-self c =
     let v = c.clear.new.self in
-    let off : (n : ℕ) → listed v.items n ≡ false = λ n. ap (λ ys. listed ys n) c.clear.ensures.items in 
+    let off : (n : ℕ) → listed v.items n ≡ false = λ n. ap (λ ys. listed ys n) c.clear.ensures.items in
     record {
       room = omega (arith, c.args.self.now.room);
       small = c.requires;
