@@ -1,6 +1,6 @@
 -- The directory of a disk that shows a layout: its sectors, the places cut out of one, and a place put into one.
 use Rattle.std.proofs.Common.{◌≡◌, ℕ, ◌+◌, ◌*◌, ◌/◌, ◌%◌, ◌<◌, ◌≤◌, true, false, not, ◌&&◌, leb, ◌≢◌, List, [], ◌∷◌, ◌++◌, map, length, get_or, take, drop, set, replicate, Some, None, codes, Option, sym, refl, ap, ◌∙◌, subst, ⊎_elim, arith}
-use Rattle.std.specs.List.{range_with_len, AllByRecursion as All}
+use Rattle.std.specs.List.{range_with_len, AllByRecursion}
 use Rattle.std.proofs.lemmas.Bool.{and_parts, leb-true, both_ways, cases_eq}
 use Rattle.std.proofs.lemmas.List.{length-append, append_assoc, take_at, drop_at, get_or-set_same, get_or-set_other}
 use Rattle.std.proofs.ByRecursion.{All-get_or}
@@ -30,7 +30,7 @@ legal_fits f h =
     let two = and_parts (leb (length n) 32) (not (same n (codes "DIRECTORY"))) one.1 in
     (spelled_some n one.0, leb-true (length n) 32 two.0)
 
-pub places_fit : (es : List (Option Entry)) → All (λ f. legal f.name ≡ true) (entries es) → All Fits es
+pub places_fit : (es : List (Option Entry)) → AllByRecursion (λ f. legal f.name ≡ true) (entries es) → AllByRecursion Fits es
 places_fit [] h = tt
 places_fit (None ∷ es) h = (tt, places_fit es h)
 places_fit (Some f ∷ es) h = (legal_fits f h.0, places_fit es h.1)
@@ -122,15 +122,15 @@ module _ (es : List (Option Entry)) (i : ℕ) (e : Option Entry) (long : 3 * i +
 
 -- ---- the sectors of the directory
 
-all_unmap : {X Y : Type 0} (P : X → Type 0) (f : Y → X) (ys : List Y) → All P (map f ys) → All (λ y. P (f y)) ys
+all_unmap : {X Y : Type 0} (P : X → Type 0) (f : Y → X) (ys : List Y) → AllByRecursion P (map f ys) → AllByRecursion (λ y. P (f y)) ys
 all_unmap P f [] h = tt
 all_unmap P f (y ∷ ys) h = (h.0, all_unmap P f ys h.1)
 
-all_left : {X : Type 0} (P : X → Type 0) (xs ys : List X) → All P (xs ++ ys) → All P xs
+all_left : {X : Type 0} (P : X → Type 0) (xs ys : List X) → AllByRecursion P (xs ++ ys) → AllByRecursion P xs
 all_left P [] ys h = tt
 all_left P (x ∷ xs) ys h = (h.0, all_left P xs ys h.1)
 
-all_right : {X : Type 0} (P : X → Type 0) (xs ys : List X) → All P (xs ++ ys) → All P ys
+all_right : {X : Type 0} (P : X → Type 0) (xs ys : List X) → AllByRecursion P (xs ++ ys) → AllByRecursion P ys
 all_right P [] ys h = h
 all_right P (x ∷ xs) ys h = all_right P xs ys h.1
 

@@ -1,6 +1,6 @@
 -- From what the survey says to what reading a disk promises.
 use Rattle.std.proofs.Common.{◌≡◌, ℕ, Bool, true, false, cond, length, Ok, Err, Result, sym, refl, ap, ◌∙◌, subst, arith}
-use Rattle.std.specs.List.{AllByRecursion as All}
+use Rattle.std.specs.List.{AllByRecursion}
 use Rattle.device.specs.declared.fault.Code.TheVariants.{BadLabel, NotReady}
 use Rattle.device.specs.declared.fault.Fault.{Fault}
 use Rattle.device.specs.Device.{Medium, WellFormed, device_fault}
@@ -23,7 +23,7 @@ shows_so : (x : Found Layout) (s : Seen) (v : Survey) → v.files ≡ s.files �
 shows_so (fault c n) s v files used t = t
 shows_so (read d) s v files used t = record { files = files ∙ t.files; used = λ n. ap (λ (f : ℕ → Bool). f n) used ∙ t.met n }
 
-module _ (ss : Disk) (whole : All WellFormed ss) (r : Result Unit Fault) (t : Scan) (scans : Scans (survey ss) r t) where
+module _ (ss : Disk) (whole : AllByRecursion WellFormed ss) (r : Result Unit Fault) (t : Scan) (scans : Scans (survey ss) r t) where
   pub found_fault : (f d : Fault) (x : Result Survey Fault) → r ≡ Err f → x ≡ Err d → d ≡ f → Told ss x
   unfolding Told
   found_fault f d x fails passed e =

@@ -1,6 +1,6 @@
 -- The sectors of a file's records given back one after another: those given and those to come are always the same together.
 use Rattle.std.proofs.Common.{◌≡◌, ℕ, ◌-◌, ◌<◌, Bool, true, false, cond, not, ◌&&◌, ◌||◌, eqb, ltb, ◌⊎◌, List, [], ◌∷◌, map, length, get_or, is_ok, Some, None, Ok, Err, Result, sym, refl, ap, ◌∙◌, subst, ⊎_elim, arith}
-use Rattle.std.specs.List.{AllByRecursion as All}
+use Rattle.std.specs.List.{AllByRecursion}
 use Rattle.std.proofs.lemmas.Bool.{cases_Bool, eqb-true, lt-ltb}
 use Rattle.device.specs.declared.sector.Sector.{Sector}
 use Rattle.device.specs.declared.fault.Fault.{Fault}
@@ -55,7 +55,7 @@ pub record Freeing (d : Layout) (ss : Disk) (ps : List Placed) (was now : ℕ �
   pub coming : here ≡ first_of rest
   pub many : left ≡ length rest
   pub stands : Contains (linked before rest) ss
-  pub usable : All (Usable d) (linked before rest)
+  pub usable : AllByRecursion (Usable d) (linked before rest)
   pub together : (n : ℕ) → (now n || member n (places_of rest)) ≡ (was n || member n (places_of ps))
 
 pub freeing_first : (d : Layout) (ss : Disk) (f : Entry) (p : ℕ) (was : ℕ → Bool) (first count : ℕ) → LaidOut d ss → get_or d.places p None ≡ Some f → first ≡ first_of f.records → count ≡ length f.records → Freeing d ss f.records was was first count
@@ -77,7 +77,7 @@ module _ (d : Layout) (ss : Disk) (laid : LaidOut d ss) (ps : List Placed) (was 
     spanned : here < d.size
     more : (then : ℕ → Bool) → ((k : ℕ) → then k ≡ (eqb k here || now k)) → Freeing d ss ps was then (get_or ss here blank).forward (left - 1)
 
-  turn_at : (rest : List Placed) (before : ℕ) → here ≡ first_of rest → left ≡ length rest → Contains (linked before rest) ss → All (Usable d) (linked before rest) →
+  turn_at : (rest : List Placed) (before : ℕ) → here ≡ first_of rest → left ≡ length rest → Contains (linked before rest) ss → AllByRecursion (Usable d) (linked before rest) →
       ((n : ℕ) → (now n || member n (places_of rest)) ≡ (was n || member n (places_of ps))) → 0 < left → Turn
   turn_at [] before coming many stands usable together some = absurd (omega arith)
   turn_at (q ∷ rest) before coming many stands usable together some =
@@ -104,7 +104,7 @@ module _ (d : Layout) (ss : Disk) (laid : LaidOut d ss) (ps : List Placed) (was 
   turn : Freeing d ss ps was now here left → 0 < left → Turn
   turn w some = turn_at w.rest w.before w.coming w.many w.stands w.usable w.together some
 
-  over_at : (rest : List Placed) (before : ℕ) → here ≡ first_of rest → left ≡ length rest → All (Usable d) (linked before rest) →
+  over_at : (rest : List Placed) (before : ℕ) → here ≡ first_of rest → left ≡ length rest → AllByRecursion (Usable d) (linked before rest) →
       ((n : ℕ) → (now n || member n (places_of rest)) ≡ (was n || member n (places_of ps))) → (left ≡ 0) ⊎ (here ≡ null) → (n : ℕ) → now n ≡ (was n || member n (places_of ps))
   over_at [] before coming many usable together end n = sym (or_false (now n)) ∙ together n
   over_at (q ∷ rest) before coming many usable together end n =

@@ -1,6 +1,6 @@
 -- What stands on a disk that shows a layout: its map, its files' chains, and where these lie.
 use Rattle.std.proofs.Common.{◌≡◌, ℕ, zero, suc, ◌+◌, ◌*◌, ◌/◌, ◌%◌, ◌<◌, ◌≤◌, true, false, ◌&&◌, ltb, leb, List, [], ◌∷◌, ◌++◌, map, length, get_or, Some, None, Ok, Option, sym, refl, ap, ◌∙◌, subst, ⊎_elim, arith}
-use Rattle.std.specs.List.{range_with_len, AllByRecursion as All}
+use Rattle.std.specs.List.{range_with_len, AllByRecursion}
 use Rattle.std.proofs.lemmas.Bool.{and_parts, cases_eq, leb-true, ltb-true}
 use Rattle.device.specs.declared.sector.Sector.{Sector}
 use Rattle.device.specs.Device.{Medium, blank}
@@ -9,28 +9,28 @@ use Rattle.chains.specs.Layout.{Disk, Layout, Entry, NumberedSector, Contains, n
 use Rattle.chains.specs.Changes.{LaidOut, descriptor_sector}
 use Rattle.chains.specs.Descriptors.{described, descriptor_read, fields_in, fields_of}
 
-all_left : {X : Type 0} (P : X → Type 0) (xs ys : List X) → All P (xs ++ ys) → All P xs
+all_left : {X : Type 0} (P : X → Type 0) (xs ys : List X) → AllByRecursion P (xs ++ ys) → AllByRecursion P xs
 all_left P [] ys h = tt
 all_left P (x ∷ xs) ys h = (h.0, all_left P xs ys h.1)
 
-all_right : {X : Type 0} (P : X → Type 0) (xs ys : List X) → All P (xs ++ ys) → All P ys
+all_right : {X : Type 0} (P : X → Type 0) (xs ys : List X) → AllByRecursion P (xs ++ ys) → AllByRecursion P ys
 all_right P [] ys h = h
 all_right P (x ∷ xs) ys h = all_right P xs ys h.1
 
-all_counted : {X : Type 0} (P : X → Type 0) (f : ℕ → X) (a n : ℕ) → All P (map f (range_with_len a n)) → (i : ℕ) → a ≤ i → i < a + n → P (f i)
+all_counted : {X : Type 0} (P : X → Type 0) (f : ℕ → X) (a n : ℕ) → AllByRecursion P (map f (range_with_len a n)) → (i : ℕ) → a ≤ i → i < a + n → P (f i)
 all_counted P f a zero h i l u = absurd (omega arith)
 all_counted P f a (suc n) h i l u =
     ⊎_elim (λ (e : a ≡ i). subst (λ (k : ℕ). P (f k)) e h.0) (λ (ne : a ≡ i → ⊥). all_counted P f (a + 1) n h.1 i (omega arith) (omega arith)) (cases_eq a i)
 
 -- what holds of the sectors of all chains holds of those of the file at place p
-chain_holds : (P : NumberedSector → Type 0) (f : Entry) (es : List (Option Entry)) (p : ℕ) → get_or es p None ≡ Some f → All P (chains es) → All P (chain f)
+chain_holds : (P : NumberedSector → Type 0) (f : Entry) (es : List (Option Entry)) (p : ℕ) → get_or es p None ≡ Some f → AllByRecursion P (chains es) → AllByRecursion P (chain f)
 chain_holds P f [] p e h = let z : ◌≡◌ {A = ℕ} 0 1 = cc in absurd (omega arith)
 chain_holds P f (None ∷ es) zero e h = let z : ◌≡◌ {A = ℕ} 0 1 = cc in absurd (omega arith)
 chain_holds P f (None ∷ es) (suc p) e h = chain_holds P f es p e h
-chain_holds P f (Some g ∷ es) zero e h = let q : g ≡ f = cc in subst (λ (k : Entry). All P (chain k)) q (all_left P (chain g) (chains es) h)
+chain_holds P f (Some g ∷ es) zero e h = let q : g ≡ f = cc in subst (λ (k : Entry). AllByRecursion P (chain k)) q (all_left P (chain g) (chains es) h)
 chain_holds P f (Some g ∷ es) (suc p) e h = chain_holds P f es p e (all_right P (chain g) (chains es) h)
 
-by_number : (P : ℕ → Type 0) (xs : List NumberedSector) → All P (numbers xs) → All (λ a. P a.number) xs
+by_number : (P : ℕ → Type 0) (xs : List NumberedSector) → AllByRecursion P (numbers xs) → AllByRecursion (λ a. P a.number) xs
 by_number P [] h = tt
 by_number P (a ∷ xs) h = (h.0, by_number P xs h.1)
 
@@ -60,7 +60,7 @@ module _ (d : Layout) (ss : Disk) (laid : LaidOut d ss) where
     pub stands_chain : Contains (chain f) ss
     stands_chain = chain_holds Stands f d.places p at_place (all_right Stands (directory d.places) (chains d.places) (all_right Stands (label_and_map d) (directory d.places ++ chains d.places) laid.shows))
 
-    pub usable_chain : All (Usable d) (chain f)
+    pub usable_chain : AllByRecursion (Usable d) (chain f)
     usable_chain = chain_holds (Usable d) f d.places p at_place (by_number (λ n. (leb reserved n && ltb n d.size) ≡ true) (chains d.places) laid.proper.usable)
 
 word_is : (n : ℕ) → n % 256 + 256 * (n / 256) ≡ n

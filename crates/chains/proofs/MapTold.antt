@@ -1,6 +1,6 @@
 -- Map sectors compared whole tell what reading finds bit by bit.
 use Rattle.std.proofs.Common.{◌≡◌, ℕ, zero, suc, ◌+◌, ◌*◌, ◌/◌, ◌%◌, ◌^◌, ◌<◌, ◌≤◌, Bool, true, false, cond, not, ◌&&◌, eqb, ◌⊎◌, List, [], ◌∷◌, length, get_or, replicate, Err, Result, sym, refl, ap, ◌∙◌, subst, inl, inr, ⊎_elim, add-zero, arith, lit<}
-use Rattle.std.specs.List.{range_with_len, AllByRecursion as All}
+use Rattle.std.specs.List.{range_with_len, AllByRecursion}
 use Rattle.std.proofs.lemmas.List.FromFn.{fill_by_all, get_or-map-range_with_len}
 use Rattle.std.proofs.ByRecursion.{All-get_or, All-from_get_or}
 use Rattle.std.proofs.lemmas.List.{get_or-replicate, get_or_past}
@@ -40,7 +40,7 @@ blank_whole =
       forward = omega arith;
     }
 
-pub whole_at : (ss : Disk) → All WellFormed ss → (n : ℕ) → WellFormed (sector_at ss n)
+pub whole_at : (ss : Disk) → AllByRecursion WellFormed ss → (n : ℕ) → WellFormed (sector_at ss n)
 whole_at ss w n =
     ⊎_elim (λ (l : n < length ss). All-get_or WellFormed ss n blank l w) (λ (l : length ss ≤ n). rw (get_or_past ss n blank l) blank_whole)
     (cases_lt n (length ss))
@@ -151,7 +151,7 @@ abbrev pub bits_in : ℕ → ℕ → ℕ
 bits_in c zero = 0
 bits_in c (suc s) = c + bits_in c s
 
-module _ (ss : Disk) (w : All WellFormed ss) (m : ℕ → Bool) where
+module _ (ss : Disk) (w : AllByRecursion WellFormed ss) (m : ℕ → Bool) where
   abbrev Right : ℕ → ℕ → Type 0
   Right n c = (i : ℕ) → n ≤ i → i < n + c → marks ss i ≡ m i
 

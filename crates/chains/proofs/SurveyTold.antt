@@ -1,6 +1,6 @@
 -- The survey of a disk tells what reading it finds.
 use Rattle.std.proofs.Common.{◌≡◌, ℕ, zero, suc, ◌+◌, Bool, true, false, ◌||◌, ltb, leb, List, [], ◌∷◌, map, length, Ok, Option, Result, sym, refl, ap, ◌∙◌, subst, arith}
-use Rattle.std.specs.List.{AllByRecursion as All}
+use Rattle.std.specs.List.{AllByRecursion}
 use Rattle.device.specs.declared.fault.Fault.{Fault}
 use Rattle.device.specs.declared.fault.Code.TheVariants.{PointerError, BadLabel}
 use Rattle.device.specs.Device.{WellFormed}
@@ -46,7 +46,7 @@ module _ (ss : Disk) where
   marked_is es met h = λ t n. ltb n reserved || (leb (length ss) n || h n t)
 
   -- with any counts of directory sectors, places, map sectors and their bits, so that none of them unfolds
-  module _ (w : All WellFormed ss) (n k s c bits : ℕ) (long : c ≡ 1024) (together : bits_in c s ≡ bits) where
+  module _ (w : AllByRecursion WellFormed ss) (n k s c bits : ℕ) (long : c ≡ 1024) (together : bits_in c s ≡ bits) where
     abbrev map_of : Layout → Found Layout
     map_of d = map_from ss (allocated (length ss) d.places) bits 0 (read d)
 
@@ -91,6 +91,6 @@ module _ (ss : Disk) where
     tells_with : Tells SumsUp (then parsed map_of) (need label_right BadLabel 0 (next (directory_on ss n 0) (λ _. next (places_on ss k 0 nothing_seen) map_told)))
     tells_with = subst (λ (x : Found Layout). Tells SumsUp x (need label_right BadLabel 0 (next (directory_on ss n 0) (λ _. next (places_on ss k 0 nothing_seen) map_told)))) as_read in_order
 
-pub survey_tells : (ss : Disk) → All WellFormed ss → Tells SumsUp (reading ss) (survey ss)
+pub survey_tells : (ss : Disk) → AllByRecursion WellFormed ss → Tells SumsUp (reading ss) (survey ss)
 unfolding survey
 survey_tells ss w = tells_with ss w 32 96 3 1024 3072 refl refl

@@ -1,6 +1,6 @@
 -- What the code asks of a disk that it reads through, and what it tells of one.
 use Rattle.std.specs.Prelude.{◌≡◌, ◌≤◌, false, length, Result}
-use Rattle.std.specs.List.{AllByRecursion as All}
+use Rattle.std.specs.List.{AllByRecursion}
 use Rattle.device.specs.declared.fault.Fault.{Fault}
 use Rattle.device.specs.Device.{Medium, WellFormed}
 use Rattle.chains.specs.declared.survey.Survey.{Survey}
@@ -12,7 +12,7 @@ use Rattle.chains.specs.Scans.{Shows}
 -- a disk that can be read: the door is closed, the sectors are whole, and the size is one that a disk can have
 pub record Readable (m : Medium) : Type 0 where
   pub closed : m.door ≡ false
-  pub whole : All WellFormed m.sectors
+  pub whole : AllByRecursion WellFormed m.sectors
   pub long : 64 ≤ length m.sectors
   pub short : length m.sectors ≤ 2464
 

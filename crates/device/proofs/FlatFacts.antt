@@ -2,7 +2,7 @@
 use Rattle.std.proofs.Common.{◌≡◌, ℕ, ◌+◌, ◌-◌, ◌*◌, ◌/◌, ◌%◌, ◌^◌, ◌<◌, ◌≤◌, min, Bool, List, [], ◌∷◌, ◌++◌, map, length, get_or, take, drop, set, Vec, sym, refl, ap, ◌∙◌, subst, ⊎_elim, arith, rules}
 use lib.Seq.{paste}
 use Rattle.std.specs.Vec.{with_items}
-use Rattle.std.specs.List.{range_with_len, AllByRecursion as All}
+use Rattle.std.specs.List.{range_with_len, AllByRecursion}
 use Rattle.std.proofs.lemmas.List.FromFn.{length-map-range_with_len, get_or-map-range_with_len, fill_by_all}
 use Rattle.std.proofs.lemmas.List.Edits.{paste-paste, paste_all}
 use Rattle.std.proofs.ByRecursion.{All-map, All-from_get_or, All-get_or, All-append}
@@ -33,7 +33,7 @@ frame_same old new n same =
     (omega (arith, same 128 (omega arith), same 129 (omega arith)))
     (omega (arith, same 130 (omega arith), same 131 (omega arith)))
 
-all_counted : {X : Type 0} (P : X → Type 0) (f : ℕ → X) (n : ℕ) → ((i : ℕ) → P (f i)) → All P (map f (range_with_len 0 n))
+all_counted : {X : Type 0} (P : X → Type 0) (f : ℕ → X) (n : ℕ) → ((i : ℕ) → P (f i)) → AllByRecursion P (map f (range_with_len 0 n))
 all_counted P f n h = All-map P f (range_with_len 0 n) (All-from_get_or (λ k. P (f k)) (range_with_len 0 n) 0 (λ i l. h (get_or (range_with_len 0 n) i 0)))
 
 frame_whole : (bs : List ℕ) (n : ℕ) → WellFormed (frame bs n)
@@ -48,7 +48,7 @@ frame_whole bs n =
 pub length_frames : (bs : List ℕ) → length (frames bs) ≡ frame_count bs
 length_frames bs = length-map-range_with_len (frame bs) 0 (frame_count bs)
 
-pub frames_whole : (bs : List ℕ) → All WellFormed (frames bs)
+pub frames_whole : (bs : List ℕ) → AllByRecursion WellFormed (frames bs)
 frames_whole bs = all_counted WellFormed (frame bs) (frame_count bs) (frame_whole bs)
 
 pub getD_frames : (bs : List ℕ) (n : ℕ) → n < frame_count bs → get_or (frames bs) n blank ≡ frame bs n

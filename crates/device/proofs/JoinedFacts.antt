@@ -1,7 +1,7 @@
 -- What two devices joined as one answer, by what their parts answer.
 use Rattle.std.proofs.Common.{◌≡◌, ℕ, ◌+◌, ◌-◌, ◌<◌, ◌≤◌, min, Bool, true, false, cond, ◌||◌, List, ◌++◌, length, get_or, take, set, Ok, Result, sym, refl, ap, ◌∙◌, arith}
 use lib.Seq.{take-set-lt}
-use Rattle.std.specs.List.{AllByRecursion as All}
+use Rattle.std.specs.List.{AllByRecursion}
 use Rattle.std.proofs.ByRecursion.{All-append, All-take}
 use Rattle.std.proofs.lemmas.List.{length-take, length-append, get_or-take, get_or_append_left, get_or-append_right, set-append_left, set-append_right}
 use Rattle.std.proofs.lemmas.Bool.{or_parts, lt-ltb, le-ltb}
@@ -15,7 +15,7 @@ module _ (a b : List Sector) where
   pub length_joined : length (joined_sectors a b) ≡ min 65535 (length a + length b)
   length_joined = length-take 65535 (a ++ b) ∙ ap (min 65535) (length-append a b)
 
-  pub whole_joined : All WellFormed a → All WellFormed b → All WellFormed (joined_sectors a b)
+  pub whole_joined : AllByRecursion WellFormed a → AllByRecursion WellFormed b → AllByRecursion WellFormed (joined_sectors a b)
   whole_joined p q = All-take WellFormed 65535 (a ++ b) (All-append WellFormed a b p q)
 
   module _ (n : ℕ) (within : n < length (joined_sectors a b)) where

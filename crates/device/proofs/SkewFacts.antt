@@ -1,6 +1,6 @@
 -- What a skew does to the sectors of a device.
 use Rattle.std.proofs.Common.{◌≡◌, ℕ, zero, suc, ◌+◌, ◌*◌, ◌/◌, ◌%◌, ◌<◌, ◌≤◌, Bool, true, false, cond, not, eqb, ltb, leb, List, [], ◌∷◌, length, get_or, set, sym, refl, ap, ◌∙◌, subst, ⊎_elim, arith}
-use Rattle.std.specs.List.{list_all, AllByRecursion as All}
+use Rattle.std.specs.List.{list_all, AllByRecursion}
 use Rattle.std.proofs.lemmas.List.FromFn.{length-map-range_with_len, get_or-map-range_with_len}
 use Rattle.std.proofs.ByRecursion.{All-get_or, All-from_get_or, Decides-by_and}
 use Rattle.std.proofs.lemmas.List.{length-set, get_or-set_same, get_or-set_other, ext_get_or}
@@ -80,7 +80,7 @@ module _ (m : Medium) where
   getD_skewed : (n : ℕ) → n < length m.sectors → get_or (skewed_medium m).sectors n blank ≡ get_or m.sectors (skewed (length m.sectors) n) blank
   getD_skewed n h = get_or-map-range_with_len lies 0 size n n blank h (omega arith)
 
-  pub whole_skewed : All WellFormed m.sectors → All WellFormed (skewed_medium m).sectors
+  pub whole_skewed : AllByRecursion WellFormed m.sectors → AllByRecursion WellFormed (skewed_medium m).sectors
   whole_skewed w =
       All-from_get_or WellFormed (skewed_medium m).sectors blank
       (λ n h.

@@ -1,6 +1,6 @@
 // A flat image of a disk: a vector of 132-byte frames, with a door and a tab.
 ghost use Rattle.std.specs.Prelude.{◌≡◌, ◌%◌, ◌<◌, true, false, length, is_ok, if◌then◌else◌, ◌==◌, slice_index_or};
-ghost use Rattle.std.specs.List.{AllByRecursion as All};
+ghost use Rattle.std.specs.List.{AllByRecursion};
 ghost use Rattle.device.specs.Device.{WellFormed, blank, fetched, stored, wrote, with_door, with_tab};
 ghost use Rattle.device.specs.Flat.{flat_medium, reader_medium, frame_count, with_frame};
 
@@ -75,7 +75,7 @@ impl ReadingDevice for FlatImage {
     // Bytes past the last whole frame belong to no sector.
     fn count(&self) -> u16
         ensures value { result ≡ length (flat_medium self.now).sectors }
-        ensures whole { All WellFormed (flat_medium self.now).sectors }
+        ensures whole { AllByRecursion WellFormed (flat_medium self.now).sectors }
         ensures frames { result ≡ frame_count self.now.bytes.items }
     {
         count_sectors(self.bytes.as_slice())

@@ -1,7 +1,7 @@
 // Frames of 132 bytes: 128 data bytes, the back link and the forward link, low bytes first.
 ghost use Rattle.std.specs.Prelude.{◌≡◌, ◌+◌, ◌*◌, ◌^◌, ◌<◌, ◌≤◌, length, slice_index_or};
 ghost use Rattle.std.proofs.Math.Seq.{paste};
-ghost use Rattle.std.specs.List.{AllByRecursion as All};
+ghost use Rattle.std.specs.List.{AllByRecursion};
 ghost use Rattle.device.specs.Device.{WellFormed, blank};
 ghost use Rattle.device.specs.Flat.{frame, frames, frame_count, with_frame};
 
@@ -19,7 +19,7 @@ pub(crate) fn count_frames(bytes: &[u8]) -> u16
 pub(crate) fn count_sectors(bytes: &[u8]) -> u16
     ensures count { result ≡ frame_count bytes.now }
     ensures value { result ≡ length (frames bytes.now) }
-    ensures whole { All WellFormed (frames bytes.now) }
+    ensures whole { AllByRecursion WellFormed (frames bytes.now) }
 {
     count_frames(bytes)
 }
@@ -51,7 +51,7 @@ pub(crate) fn frame_at(bytes: &[u8], n: usize) -> Sector
 fn put_data(bytes: &mut [u8], start: usize, data: &[u8])
     requires { start + length «data».now ≤ length bytes.old }
     ensures after { bytes.new ≡ paste bytes.old start «data».now (length «data».now) }
-    ensures small { All (λ b. b < 2 ^ 8) «data».now }
+    ensures small { AllByRecursion (λ b. b < 2 ^ 8) «data».now }
 {
     bytes[start..start + data.len()].copy_from_slice(data);
 }

@@ -1,6 +1,6 @@
 // Two devices as one: the first one's sectors before the second's, cut at 65,535.
 ghost use Rattle.std.specs.Prelude.{◌≡◌, ◌+◌, ◌<◌, min, false, length, is_ok, if◌then◌else◌};
-ghost use Rattle.std.specs.List.{AllByRecursion as All};
+ghost use Rattle.std.specs.List.{AllByRecursion};
 ghost use Rattle.device.specs.Device.{WellFormed, fetched, stored, wrote, with_door, with_tab};
 ghost use Rattle.device.specs.Joined.{joined_medium, wrote_first, wrote_second};
 
@@ -43,7 +43,7 @@ impl<F: WritingDevice, S: WritingDevice> JoinedPair<F, S> {
 
     fn count_both(&self) -> u16
         ensures value { result ≡ length (joined_medium F.ReadingDevice S.ReadingDevice self.now).sectors }
-        ensures whole { All WellFormed (joined_medium F.ReadingDevice S.ReadingDevice self.now).sectors }
+        ensures whole { AllByRecursion WellFormed (joined_medium F.ReadingDevice S.ReadingDevice self.now).sectors }
         ensures cut { result ≡ min 65535 (length (F.ReadingDevice.medium self.now.first).sectors + length (S.ReadingDevice.medium self.now.second).sectors) }
     {
         cut_sum(self.first.count(), self.second.count())
@@ -88,7 +88,7 @@ impl<F: WritingDevice, S: WritingDevice> ReadingDevice for JoinedPair<F, S> {
 
     fn count(&self) -> u16
         ensures value { result ≡ length (joined_medium F.ReadingDevice S.ReadingDevice self.now).sectors }
-        ensures whole { All WellFormed (joined_medium F.ReadingDevice S.ReadingDevice self.now).sectors }
+        ensures whole { AllByRecursion WellFormed (joined_medium F.ReadingDevice S.ReadingDevice self.now).sectors }
         ensures cut { result ≡ min 65535 (length (F.ReadingDevice.medium self.now.first).sectors + length (S.ReadingDevice.medium self.now.second).sectors) }
     {
         self.count_both()

@@ -1,6 +1,6 @@
 // A device that lies skewed on a lower one: sector s of a track of 32 at place 5 * s mod 32 of that track.
 ghost use Rattle.std.specs.Prelude.{◌≡◌, ℕ, ◌*◌, ◌%◌, ◌<◌, true, length, is_ok, if◌then◌else◌};
-ghost use Rattle.std.specs.List.{AllByRecursion as All};
+ghost use Rattle.std.specs.List.{AllByRecursion};
 ghost use Rattle.device.specs.Device.{WellFormed, fetched, stored, wrote, with_door, with_tab};
 ghost use Rattle.device.specs.Skew.{StandsFor, is_permutation, lower_medium, places, skewed, skewed_medium};
 
@@ -64,7 +64,7 @@ impl<D> Skewed<D> {
 impl<D: ReadingDevice> Skewed<D> {
     fn size(&self) -> u16
         ensures value { result ≡ length (skewed_medium (lower_medium D.ReadingDevice self.now)).sectors }
-        ensures whole { All WellFormed (skewed_medium (lower_medium D.ReadingDevice self.now)).sectors }
+        ensures whole { AllByRecursion WellFormed (skewed_medium (lower_medium D.ReadingDevice self.now)).sectors }
         ensures lower { result ≡ length (lower_medium D.ReadingDevice self.now).sectors }
     {
         self.lower.count()
@@ -84,7 +84,7 @@ impl<D: ReadingDevice> ReadingDevice for Skewed<D> {
 
     fn count(&self) -> u16
         ensures value { result ≡ length (skewed_medium (lower_medium D.ReadingDevice self.now)).sectors }
-        ensures whole { All WellFormed (skewed_medium (lower_medium D.ReadingDevice self.now)).sectors }
+        ensures whole { AllByRecursion WellFormed (skewed_medium (lower_medium D.ReadingDevice self.now)).sectors }
         ensures lower { result ≡ length (lower_medium D.ReadingDevice self.now).sectors }
     {
         self.size()

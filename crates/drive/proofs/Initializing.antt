@@ -1,6 +1,6 @@
 -- The promise of INITIALIZE, from what its code does.
 use Rattle.std.proofs.Common.{◌≡◌, ℕ, suc, Bool, true, false, cond, not, ◌&&◌, ltb, leb, List, [], ◌∷◌, map, length, Some, None, Ok, Err, Option, Result, sym, refl, ap, ◌∙◌, subst, arith}
-use Rattle.std.specs.List.{AllByRecursion as All}
+use Rattle.std.specs.List.{AllByRecursion}
 use Rattle.std.proofs.lemmas.Bool.{false≢true}
 use Rattle.device.specs.Codes.{layer_number}
 use Rattle.device.specs.Device.{Medium, WellFormed}
@@ -41,7 +41,7 @@ as_many (None ∷ es) = as_many es
 as_many (Some f ∷ es) = ap suc (as_many es)
 
 -- what was refused before the disk was read
-pub initializes_refused : {D S : Type 0} (r : Reading D) (a : Allocating S) (d : Drive D S) (f : Fault) → All WellFormed (r.medium d.device).sectors → Err f ≡ first_fault (own_initialize_checks r d) → Initializes r a d (Err f) d
+pub initializes_refused : {D S : Type 0} (r : Reading D) (a : Allocating S) (d : Drive D S) (f : Fault) → AllByRecursion WellFormed (r.medium d.device).sectors → Err f ≡ first_fault (own_initialize_checks r d) → Initializes r a d (Err f) d
 initializes_refused r a d f whole e = record {
   whole = whole;
   medium = refl;
@@ -67,7 +67,7 @@ module _ {D S : Type 0} (r : Reading D) (a : Allocating S) (d k e : Drive D S) (
     state = takes.state ∙ ap (started_state (length (entries l.places))) state;
   }
 
-  pub initializes_done : (size : ℕ) (x : Result Unit Fault) (s : Result Survey Fault) → size ≡ length (r.medium d.device).sectors → All WellFormed (r.medium d.device).sectors → Ok tt ≡ first_fault (own_initialize_checks r d) → DiskRead (r.medium d.device) s →
+  pub initializes_done : (size : ℕ) (x : Result Unit Fault) (s : Result Survey Fault) → size ≡ length (r.medium d.device).sectors → AllByRecursion WellFormed (r.medium d.device).sectors → Ok tt ≡ first_fault (own_initialize_checks r d) → DiskRead (r.medium d.device) s →
       e.device ≡ k.device → ((z : Found Layout) → sized size ≡ true → Tells Shows z s → ReadsIn r a k z x e) → Initializes r a d x e
   initializes_done size x s is whole ok does device takes =
       let m = r.medium d.device in

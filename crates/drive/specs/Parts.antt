@@ -1,6 +1,6 @@
 -- What the code of the calls does to the parts of a drive.
 use Rattle.std.specs.Prelude.{◌≡◌, ℕ, ◌-◌, true, false, cond, not, ◌&&◌, List, length, is_ok, Ok, Err, Result, nat_le, nat_lt}
-use Rattle.std.specs.List.{AllByRecursion as All}
+use Rattle.std.specs.List.{AllByRecursion}
 use Rattle.device.specs.Codes.{code_number}
 use Rattle.device.specs.Device.{Medium, WellFormed}
 use Rattle.device.specs.declared.fault.Code.TheVariants.{Done, NotInitialized}
@@ -88,7 +88,7 @@ ReadsIn r a d (read l) (Err f) e = ⊥
 
 -- INITIALIZE from d to e, answered by x
 pub record Initializes {D S : Type 0} (r : Reading D) (a : Allocating S) (d : Drive D S) (x : Result Unit Fault) (e : Drive D S) : Type 0 where
-  pub whole : All WellFormed (r.medium d.device).sectors
+  pub whole : AllByRecursion WellFormed (r.medium d.device).sectors
   pub medium : r.medium e.device ≡ r.medium d.device
   pub refused : (f : Fault) → first_fault (own_initialize_checks r d) ≡ Err f → (x ≡ Err f) × (e.allocator ≡ d.allocator) × (e.state ≡ d.state)
   pub found : first_fault (own_initialize_checks r d) ≡ Ok tt → ReadsIn r a d (reading (r.medium d.device).sectors) x e

@@ -1,6 +1,6 @@
 // EXAMINE: whether a disk is sound, on a device that is only read.
 ghost use Rattle.std.specs.Prelude.{◌≡◌, true, false, [], length};
-ghost use Rattle.std.specs.List.{AllByRecursion as All};
+ghost use Rattle.std.specs.List.{AllByRecursion};
 ghost use Rattle.device.specs.Device.{WellFormed};
 ghost use Rattle.chains.specs.Layout.{sized};
 ghost use Rattle.chains.specs.Sound.{TakesSoundDisks};
@@ -29,7 +29,7 @@ pub fn examine<D: ReadingDevice>(device: &mut D) -> Answer
 fn try_examine<D: ReadingDevice>(device: &mut D) -> Result<(), Fault>
     ensures does { Examines (D.ReadingDevice.medium device.old) result }
     ensures same { D.ReadingDevice.medium device.new ≡ D.ReadingDevice.medium device.old }
-    ensures whole { All WellFormed (D.ReadingDevice.medium device.old).sectors }
+    ensures whole { AllByRecursion WellFormed (D.ReadingDevice.medium device.old).sectors }
 {
     let sectors = device.count();
     check_readable(device, sectors)?;

@@ -1,7 +1,7 @@
 -- What the sectors of an array are.
 use Rattle.std.proofs.Common.{◌≡◌, ℕ, ◌%◌, ◌^◌, ◌<◌, min, List, map, length, get_or, take, set, sym, ap, ◌∙◌, arith}
 use lib.Seq.{take-set-lt}
-use Rattle.std.specs.List.{range_with_len, AllByRecursion as All}
+use Rattle.std.specs.List.{range_with_len, AllByRecursion}
 use Rattle.std.proofs.lemmas.List.FromFn.{length-map-range_with_len, fill_by_all}
 use Rattle.std.proofs.ByRecursion.{All-map, All-from_get_or, All-get_or}
 use Rattle.std.proofs.lemmas.List.{length-map, length-take, get_or-map, get_or-take, map-set}
@@ -29,7 +29,7 @@ sized_whole s =
       forward = omega arith;
     }
 
-pub sectors_whole : (ss : List Sector) → All WellFormed (sectors_of ss)
+pub sectors_whole : (ss : List Sector) → AllByRecursion WellFormed (sectors_of ss)
 unfolding sectors_of
 sectors_whole ss = All-map WellFormed sized (take 65535 ss) (All-from_get_or (λ s. WellFormed (sized s)) (take 65535 ss) blank (λ i l. sized_whole (get_or (take 65535 ss) i blank)))
 

@@ -1,6 +1,6 @@
 // A device over a vector of sectors, with a door and a tab.
 ghost use Rattle.std.specs.Prelude.{◌≡◌, ◌<◌, false, length, slice_index_or};
-ghost use Rattle.std.specs.List.{AllByRecursion as All};
+ghost use Rattle.std.specs.List.{AllByRecursion};
 ghost use Rattle.device.specs.Device.{WellFormed, blank, device_fault, wrote};
 ghost use Rattle.plain.specs.Arrays.{array_medium};
 
@@ -29,7 +29,7 @@ impl SectorArray {
 
     fn used(&self) -> u16
         ensures value { result ≡ length (array_medium self.now).sectors }
-        ensures whole { All WellFormed (array_medium self.now).sectors }
+        ensures whole { AllByRecursion WellFormed (array_medium self.now).sectors }
     {
         self.sectors.len().min(65535) as u16
     }

@@ -1,6 +1,6 @@
 -- What a call that is not refused passed, and the model that it leaves.
 use Rattle.std.proofs.Common.{◌≡◌, ℕ, ◌+◌, ◌-◌, ◌*◌, min, max, Bool, true, false, cond, not, ◌&&◌, ◌||◌, eqb, ltb, leb, List, [], ◌∷◌, ◌++◌, length, get_or, take, drop, set, is_some, refl, ap, ◌∙◌}
-use Rattle.std.specs.List.{AllByRecursion as All}
+use Rattle.std.specs.List.{AllByRecursion}
 use Rattle.std.proofs.lemmas.Bool.{both_ways}
 use Rattle.device.specs.declared.fault.Code.{Code}
 use Rattle.device.specs.declared.fault.Code.TheVariants as code
@@ -12,13 +12,13 @@ use Rattle.rules.specs.Model.{Model, Supplied, Format, Initialize, Open, Close, 
 
 -- what is not refused passed every check
 pub passed : (b : Model) (buf : List ℕ) (cs : List Check) (o : Outcome) → (first_refusal_or b buf cs o).refused ≡ false →
-    All (λ c. c.applies ≡ false) cs × (first_refusal_or b buf cs o ≡ o)
+    AllByRecursion (λ c. c.applies ≡ false) cs × (first_refusal_or b buf cs o ≡ o)
 passed b buf [] o r = (tt, refl)
 passed b buf (c ∷ cs) o r = step c.applies refl (passed b buf cs o) r
   where
-    step : (t : Bool) → c.applies ≡ t → ((first_refusal_or b buf cs o).refused ≡ false → All (λ c. c.applies ≡ false) cs × (first_refusal_or b buf cs o ≡ o)) →
+    step : (t : Bool) → c.applies ≡ t → ((first_refusal_or b buf cs o).refused ≡ false → AllByRecursion (λ c. c.applies ≡ false) cs × (first_refusal_or b buf cs o ≡ o)) →
         (cond t (refusal c.code c.layer b buf) (first_refusal_or b buf cs o)).refused ≡ false →
-        ((c.applies ≡ false) × All (λ c. c.applies ≡ false) cs) × (cond t (refusal c.code c.layer b buf) (first_refusal_or b buf cs o) ≡ o)
+        ((c.applies ≡ false) × AllByRecursion (λ c. c.applies ≡ false) cs) × (cond t (refusal c.code c.layer b buf) (first_refusal_or b buf cs o) ≡ o)
     step true e ih q = absurd (both_ways true q refl)
     step false e ih q = let both = ih q in ((e, both.0), both.1)
 
@@ -28,7 +28,7 @@ after_either false c l x buf n = refl
 
 -- the checks passed, and the model left
 pub record Leaves (checks : List Check) (o : Outcome) (b' : Model) : Type 0 where
-  pub checked : All (λ c. c.applies ≡ false) checks
+  pub checked : AllByRecursion (λ c. c.applies ≡ false) checks
   pub after : o.after ≡ b'
 
 module _ (b : Model) (buf : List ℕ) where

@@ -1,7 +1,7 @@
 -- A disk that shows a layout which matches a model agrees with the model.
 use Rattle.std.proofs.Common.{◌≡◌, ℕ, Bool, false, not, ◌&&◌, ◌||◌, ltb, leb, List, [], ◌∷◌, ◌++◌, map, reverse, length, Some, None, Option, sym, refl, ap, ◌∙◌, subst}
 use mathlib.Core.List.{reverse-cons}
-use Rattle.std.specs.List.{AllByRecursion as All}
+use Rattle.std.specs.List.{AllByRecursion}
 use Rattle.std.proofs.lemmas.Bool.{or_parts, cond-false}
 use Rattle.std.proofs.lemmas.List.{length-map, map-append}
 use Rattle.std.proofs.ByRecursion.{All-map}
@@ -30,12 +30,12 @@ listed_once : (fs : List Entry) → DistinctNames fs → EachOnce (map listed_of
 listed_once [] h = h
 listed_once (f ∷ fs) h = (lists_named f.name fs ∙ h.0, listed_once fs h.1)
 
-pub none_named : (n : List ℕ) (fs : List Entry) → named n fs ≡ false → All (λ g. same n g.name ≡ false) fs
+pub none_named : (n : List ℕ) (fs : List Entry) → named n fs ≡ false → AllByRecursion (λ g. same n g.name ≡ false) fs
 none_named n [] h = tt
 none_named n (f ∷ fs) h = let parts = or_parts (same n f.name) (named n fs) h in (parts.0, none_named n fs parts.1)
 
 -- each entry is found under its name
-entries_found : (es : List (Option Entry)) → DistinctNames (entries es) → All (λ f. find f.name (files_in es) ≡ Some (map (λ p. p.bytes) f.records)) (entries es)
+entries_found : (es : List (Option Entry)) → DistinctNames (entries es) → AllByRecursion (λ f. find f.name (files_in es) ≡ Some (map (λ p. p.bytes) f.records)) (entries es)
 entries_found [] h = tt
 entries_found (None ∷ es) h = entries_found es h
 entries_found (Some f ∷ es) h = (
@@ -53,7 +53,7 @@ module _ (ss : Disk) where
       (map-append _ (reverse xs) (x ∷ []) ∙
       (ap (λ zs. zs ++ contents ss (x ∷ [])) (contents_reverse xs) ∙ sym (reverse-cons _ (contents ss xs))))
 
-  sectors_listed : (es : List (Option Entry)) → All (Walked ss) (entries es) → chain_sectors ss (map listed_of (entries es)) ≡ addresses es
+  sectors_listed : (es : List (Option Entry)) → AllByRecursion (Walked ss) (entries es) → chain_sectors ss (map listed_of (entries es)) ≡ addresses es
   sectors_listed [] h = refl
   sectors_listed (None ∷ es) h = sectors_listed es h
   sectors_listed (Some f ∷ es) h =
@@ -61,7 +61,7 @@ module _ (ss : Disk) where
       let rest = sectors_listed es h.1 in
       cc
 
-pub agrees : (b : Model) (d : Layout) (ss : Disk) (free : ℕ → Bool) → Matches b d → length ss ≡ d.size → directory_of ss ≡ map listed_of (entries d.places) → All (Walked ss) (entries d.places) →
+pub agrees : (b : Model) (d : Layout) (ss : Disk) (free : ℕ → Bool) → Matches b d → length ss ≡ d.size → directory_of ss ≡ map listed_of (entries d.places) → AllByRecursion (Walked ss) (entries d.places) →
     ((n : ℕ) → free n ≡ (leb reserved n && (ltb n (length ss) && not (member n (numbers (chains d.places)))))) → Agrees b ss free
 agrees b d ss free m size dir walked law =
     let fs = entries d.places in
@@ -72,12 +72,12 @@ agrees b d ss free m size dir walked law =
       each_once = subst EachOnce (sym dir) (listed_once fs m.proper.distinct);
       as_many = ap length dir ∙ (length-map fs listed_of ∙ (sym (length-map fs file_of) ∙ (ap length (sym (files_entries d.places)) ∙ as_long m.files)));
       forward =
-          subst (All (λ e. find e.name b.files ≡ Some (contents ss (chain_forward ss e.at)))) (sym dir)
+          subst (AllByRecursion (λ e. find e.name b.files ≡ Some (contents ss (chain_forward ss e.at)))) (sym dir)
           (All-map (λ (e : DirectoryEntry). find e.name b.files ≡ Some (contents ss (chain_forward ss e.at))) listed_of fs
           (all_both (λ f. find f.name (files_in d.places) ≡ Some (map (λ p. p.bytes) f.records)) (Walked ss) (λ f. find f.name b.files ≡ Some (contents ss (chain_forward ss f.at)))
           (λ f e w. sym (found f.name m.files differ) ∙ (e ∙ ap (λ rs. Some rs) (sym (ap (contents ss) w.forth ∙ w.holds_bytes)))) fs (entries_found d.places m.proper.distinct) walked));
       backward =
-          subst (All (λ e. contents ss (chain_backward ss e.at) ≡ reverse (contents ss (chain_forward ss e.at)))) (sym dir)
+          subst (AllByRecursion (λ e. contents ss (chain_backward ss e.at) ≡ reverse (contents ss (chain_forward ss e.at)))) (sym dir)
           (All-map (λ (e : DirectoryEntry). contents ss (chain_backward ss e.at) ≡ reverse (contents ss (chain_forward ss e.at))) listed_of fs
           (all_both (Walked ss) (Walked ss) (λ f. contents ss (chain_backward ss f.at) ≡ reverse (contents ss (chain_forward ss f.at)))
           (λ f w _. ap (contents ss) w.back ∙ (contents_reverse ss (ats f.records) ∙ ap (λ xs. reverse (contents ss xs)) (sym w.forth))) fs walked walked));

@@ -1,6 +1,6 @@
 -- The changes that calls make: records written, deleted and rewritten, a file made, erased.
 use Rattle.std.proofs.Common.{◌≡◌, ℕ, zero, suc, ◌+◌, ◌-◌, ◌*◌, ◌<◌, ◌≤◌, min, Bool, true, false, cond, not, List, [], ◌∷◌, ◌++◌, map, length, take, drop, set, Some, None, filter, Option, sym, refl, ap, ◌∙◌, subst, arith}
-use Rattle.std.specs.List.{AllByRecursion as All}
+use Rattle.std.specs.List.{AllByRecursion}
 use Rattle.std.proofs.lemmas.Bool.{or_parts, or_from}
 use Rattle.std.proofs.lemmas.List.{map-append, take-map, drop-map, take-append-drop, drop-drop, length-take-le, length-drop, length-map}
 use Rattle.std.proofs.ByRecursion.{All-append, All-take, All-drop, all_kept_by}
@@ -20,7 +20,7 @@ abbrev bytes_of : List Placed → List (List ℕ)
 bytes_of = map (λ p. p.bytes)
 
 abbrev WellFormed : List Placed → Type 0
-WellFormed = All (λ p. length p.bytes ≡ 128)
+WellFormed = AllByRecursion (λ p. length p.bytes ≡ 128)
 
 -- ---- records written
 
@@ -28,7 +28,7 @@ pub length_cut : (m : ℕ) (bs : List ℕ) → length (cut 128 m bs) ≡ m
 length_cut zero bs = refl
 length_cut (suc m) bs = ap suc (length_cut m (drop 128 bs))
 
-pub cut_whole : (m : ℕ) (bs : List ℕ) → 128 * m ≤ length bs → All (λ r. length r ≡ 128) (cut 128 m bs)
+pub cut_whole : (m : ℕ) (bs : List ℕ) → 128 * m ≤ length bs → AllByRecursion (λ r. length r ≡ 128) (cut 128 m bs)
 cut_whole zero bs h = tt
 cut_whole (suc m) bs h = (length-take-le 128 bs (omega arith), cut_whole m (drop 128 bs) (simp length-drop (omega arith)))
 
@@ -43,7 +43,7 @@ ats_placed [] rs h = refl
 ats_placed (n ∷ ns) [] h = absurd (omega arith)
 ats_placed (n ∷ ns) (r ∷ rs) h = ap (λ xs. n ∷ xs) (ats_placed ns rs (omega arith))
 
-placed_whole : (ns : List ℕ) (rs : List (List ℕ)) → All (λ r. length r ≡ 128) rs → WellFormed (placed ns rs)
+placed_whole : (ns : List ℕ) (rs : List (List ℕ)) → AllByRecursion (λ r. length r ≡ 128) rs → WellFormed (placed ns rs)
 placed_whole [] rs h = tt
 placed_whole (n ∷ ns) [] h = tt
 placed_whole (n ∷ ns) (r ∷ rs) h = (h.0, placed_whole ns rs h.1)

@@ -1,6 +1,6 @@
 -- How many sectors the chains use, and how many are left.
 use Rattle.std.proofs.Common.{◌≡◌, ℕ, zero, suc, ◌+◌, ◌-◌, ◌<◌, ◌≤◌, Bool, true, false, cond, not, ◌&&◌, ◌||◌, eqb, ltb, leb, List, [], ◌∷◌, map, length, Some, None, sum_by, filter, Option, sym, refl, ap, ◌∙◌, subst, arith}
-use Rattle.std.specs.List.{AllByRecursion as All}
+use Rattle.std.specs.List.{AllByRecursion}
 use Rattle.std.proofs.lemmas.Bool.{both_ways, and_left, lt-leb, or_parts, or_from, and_parts, and_from, ltb-true, leb-true, lt-ltb, le-leb, eqb-true, eqb-false, eq-eqb, ne_eqb, not-true}
 use Rattle.std.proofs.lemmas.List.{length-append, length-map}
 use Rattle.std.proofs.ByRecursion.{kept_by_passes, all_kept_by, All-weaker}
@@ -42,13 +42,13 @@ member_dropped z x (y ∷ ys) o h = step (eqb x y) refl (eqb z y) refl h (member
     step false e true e' k f = rw e'
     step false e false e' k f = rw e' (f k)
 
-among_dropped : (x : ℕ) (xs ys : List ℕ) → member x xs ≡ false → All (λ z. member z ys ≡ true) xs → All (λ z. member z (dropped x ys) ≡ true) xs
+among_dropped : (x : ℕ) (xs ys : List ℕ) → member x xs ≡ false → AllByRecursion (λ z. member z ys ≡ true) xs → AllByRecursion (λ z. member z (dropped x ys) ≡ true) xs
 among_dropped x [] ys o h = tt
 among_dropped x (z ∷ xs) ys o h =
     let parts = or_parts (eqb x z) (member x xs) o in
     (member_dropped z x ys (ne_eqb z x (λ e. eqb-false x z parts.0 (sym e))) h.0, among_dropped x xs ys parts.1 h.1)
 
-pub no_more : (xs ys : List ℕ) → DistinctNumbers xs → All (λ x. member x ys ≡ true) xs → length xs ≤ length ys
+pub no_more : (xs ys : List ℕ) → DistinctNumbers xs → AllByRecursion (λ x. member x ys ≡ true) xs → length xs ≤ length ys
 no_more [] ys a h = omega arith
 no_more (x ∷ xs) ys a h =
     omega (arith, length_dropped x ys h.0, no_more xs (dropped x ys) a.1 (among_dropped x xs ys a.0 h.1))
@@ -79,7 +79,7 @@ pub apart_range : (lo k : ℕ) → DistinctNumbers (range lo k)
 apart_range lo zero = tt
 apart_range lo (suc k) = (range_from (lo + 1) k lo (omega arith), apart_range (lo + 1) k)
 
-within_range : (lo k s : ℕ) → reserved ≤ lo → lo + k ≤ s → All (λ n. (leb reserved n && ltb n s) ≡ true) (range lo k)
+within_range : (lo k s : ℕ) → reserved ≤ lo → lo + k ≤ s → AllByRecursion (λ n. (leb reserved n && ltb n s) ≡ true) (range lo k)
 within_range lo zero s h l = tt
 within_range lo (suc k) s h l = (and_from (leb reserved lo) (ltb lo s) (le-leb reserved lo h) (lt-ltb lo s (omega arith)), within_range (lo + 1) k s (omega arith) (omega arith))
 
@@ -106,10 +106,10 @@ pub addresses_few : (d : Layout) → ValidLayout d → length (addresses d.place
 addresses_few d p =
     let xs = addresses d.places in
     let old : DistinctNumbers xs = subst DistinctNumbers (numbers_chains d.places) p.apart in
-    let use_able : All (λ n. (leb reserved n && ltb n d.size) ≡ true) xs = subst (All (λ n. (leb reserved n && ltb n d.size) ≡ true)) (numbers_chains d.places) p.usable in
+    let use_able : AllByRecursion (λ n. (leb reserved n && ltb n d.size) ≡ true) xs = subst (AllByRecursion (λ n. (leb reserved n && ltb n d.size) ≡ true)) (numbers_chains d.places) p.usable in
     omega (arith, no_more xs (range reserved (d.size - reserved)) old (All-weaker _ _ (in_range d.size) xs use_able), length_range reserved (d.size - reserved))
 
-each_few : (es : List (Option Entry)) (k : ℕ) → length (addresses es) ≤ k → All (λ f. length f.records ≤ k) (entries es)
+each_few : (es : List (Option Entry)) (k : ℕ) → length (addresses es) ≤ k → AllByRecursion (λ f. length f.records ≤ k) (entries es)
 each_few [] k h = tt
 each_few (None ∷ es) k h = each_few es k h
 each_few (Some f ∷ es) k h =
@@ -118,7 +118,7 @@ each_few (Some f ∷ es) k h =
     (omega arith, each_few es k (omega arith))
 
 -- so the count of a file's records fits 16 bits
-pub records_few : (d : Layout) → ValidLayout d → All (λ f. length f.records ≤ 2428) (entries d.places)
+pub records_few : (d : Layout) → ValidLayout d → AllByRecursion (λ f. length f.records ≤ 2428) (entries d.places)
 records_few d p =
     let small = leb-true d.size 2464 (and_parts (leb 64 d.size) (leb d.size 2464) p.size).1 in
     each_few d.places 2428 (omega (arith, addresses_few d p))
@@ -151,7 +151,7 @@ unused_sectors d s =
     record {
       distinct = part_apart (part_kept test (range reserved (d.size - reserved))) (apart_range reserved (d.size - reserved));
       usable = all_kept_by test _ (range reserved (d.size - reserved)) (within_range reserved (d.size - reserved) d.size (omega arith) (omega arith));
-      outside = subst (λ ns. All (λ n. member n ns ≡ false) (unused_of d)) (sym (numbers_chains d.places))
+      outside = subst (λ ns. AllByRecursion (λ n. member n ns ≡ false) (unused_of d)) (sym (numbers_chains d.places))
           (All-weaker _ _ (λ n. not-true (member n (addresses d.places))) (unused_of d) (kept_by_passes test (range reserved (d.size - reserved))));
     }
 
@@ -165,7 +165,7 @@ member_kept p (x ∷ xs) n h k = step (p x) refl (eqb n x) refl k (member_kept p
     step false e true e' k f = absurd (both_ways (p x) e (rw (← eqb-true n x e') h))
     step false e false e' k f = f k
 
-all_member : (xs : List ℕ) (P : ℕ → Type 0) → ((n : ℕ) → member n xs ≡ true → P n) → All P xs
+all_member : (xs : List ℕ) (P : ℕ → Type 0) → ((n : ℕ) → member n xs ≡ true → P n) → AllByRecursion P xs
 all_member [] P f = tt
 all_member (x ∷ xs) P f = (f x (rw (eq-eqb x x refl)), all_member xs P (λ n h. f n (step n (eqb n x) h)))
   where
@@ -173,7 +173,7 @@ all_member (x ∷ xs) P f = (f x (rw (eq-eqb x x refl)), all_member xs P (λ n h
     step n true h = refl
     step n false h = h
 
-pub all_both : {X : Type 0} (P Q R : X → Type 0) → ((x : X) → P x → Q x → R x) → (xs : List X) → All P xs → All Q xs → All R xs
+pub all_both : {X : Type 0} (P Q R : X → Type 0) → ((x : X) → P x → Q x → R x) → (xs : List X) → AllByRecursion P xs → AllByRecursion Q xs → AllByRecursion R xs
 all_both P Q R f [] h k = tt
 all_both P Q R f (x ∷ xs) h k = (f x h.0 k.0, all_both P Q R f xs h.1 k.1)
 
@@ -184,7 +184,7 @@ as_many_unused b d m =
     let r = range reserved (d.size - reserved) in
     let p = m.proper in
     let old : DistinctNumbers xs = subst DistinctNumbers (numbers_chains d.places) p.apart in
-    let use_able : All (λ n. (leb reserved n && ltb n d.size) ≡ true) xs = subst (All (λ n. (leb reserved n && ltb n d.size) ≡ true)) (numbers_chains d.places) p.usable in
+    let use_able : AllByRecursion (λ n. (leb reserved n && ltb n d.size) ≡ true) xs = subst (AllByRecursion (λ n. (leb reserved n && ltb n d.size) ≡ true)) (numbers_chains d.places) p.usable in
     let used = filter (λ n. member n xs) r in
     let both = length-filter_both (λ n. member n xs) (λ n. not (member n xs)) (λ _. refl) r in
     let le : length used ≤ length xs = no_more used xs (part_apart (part_kept (λ n. member n xs) r) (apart_range reserved (d.size - reserved))) (kept_by_passes (λ n. member n xs) r) in

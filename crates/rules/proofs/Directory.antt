@@ -1,6 +1,6 @@
 -- The directory of a disk that shows a layout, read off its sectors.
 use Rattle.std.proofs.Common.{◌≡◌, ℕ, zero, suc, ◌+◌, ◌-◌, ◌*◌, ◌/◌, ◌%◌, ◌<◌, ◌≤◌, true, false, not, ◌&&◌, eqb, leb, List, [], ◌∷◌, ◌++◌, map, length, get_or, take, drop, replicate, Some, None, Option, sym, refl, ap, ◌∙◌, subst, ⊎_elim, arith}
-use Rattle.std.specs.List.{range_with_len, AllByRecursion as All}
+use Rattle.std.specs.List.{range_with_len, AllByRecursion}
 use Rattle.std.proofs.lemmas.Bool.{and_parts, and_left, leb-true, ne_eqb, cond-true, cond-false, both_ways, cases_eq}
 use Rattle.std.proofs.lemmas.List.{length-append, length-replicate, append_assoc, take_at, drop_at, drop_more, drop_all, get_or-append_right}
 use Rattle.std.proofs.ByRecursion.{All-get_or}
@@ -28,7 +28,7 @@ legal_short n h =
     let rest = (and_parts (spelled n) (leb (length n) 32 && not (same n (lib.Chars.codes "DIRECTORY"))) h).1 in
     leb-true (length n) 32 (and_parts (leb (length n) 32) (not (same n (lib.Chars.codes "DIRECTORY"))) rest).0
 
-pub places_fit : (es : List (Option Entry)) → All (λ f. legal f.name ≡ true) (entries es) → All Fits es
+pub places_fit : (es : List (Option Entry)) → AllByRecursion (λ f. legal f.name ≡ true) (entries es) → AllByRecursion Fits es
 places_fit [] h = tt
 places_fit (None ∷ es) h = (tt, places_fit es h)
 places_fit (Some f ∷ es) h =
@@ -58,8 +58,8 @@ module _ (a b c z : List ℕ) (la : length a ≡ 40) (lb : length b ≡ 40) (lc 
       let e : length (a ++ b) ≡ 80 = simp length-append (omega arith) in
       ap (λ xs. take 40 (drop 80 xs)) (sym (append_assoc a b (c ++ z))) ∙ (ap (take 40) (drop_at (a ++ b) (c ++ z) 80 e) ∙ take_at c z 40 lc)
 
-module _ (es : List (Option Entry)) (ss : Disk) (fit : All Fits es) (long : length es ≡ 96) (shows : Contains (directory es) ss) where
-  all_unmap : {X Y : Type 0} (P : X → Type 0) (f : Y → X) (ys : List Y) → All P (map f ys) → All (λ y. P (f y)) ys
+module _ (es : List (Option Entry)) (ss : Disk) (fit : AllByRecursion Fits es) (long : length es ≡ 96) (shows : Contains (directory es) ss) where
+  all_unmap : {X Y : Type 0} (P : X → Type 0) (f : Y → X) (ys : List Y) → AllByRecursion P (map f ys) → AllByRecursion (λ y. P (f y)) ys
   all_unmap P f [] h = tt
   all_unmap P f (y ∷ ys) h = (h.0, all_unmap P f ys h.1)
 

@@ -1,7 +1,7 @@
 -- Directory sectors that are accepted hold the places.
 use Rattle.device.specs.declared.fault.Code.TheVariants.{PointerError}
 use Rattle.std.proofs.Common.{◌≡◌, ℕ, zero, suc, ◌+◌, ◌*◌, ◌/◌, ◌%◌, ◌<◌, ◌≤◌, Bool, true, ◌&&◌, eqb, List, ◌++◌, length, get_or, take, drop, replicate, None, Option, sym, ap, ◌∙◌, arith}
-use Rattle.std.specs.List.{range_with_len, AllByRecursion as All}
+use Rattle.std.specs.List.{range_with_len, AllByRecursion}
 use Rattle.std.proofs.lemmas.List.{length-drop, drop-drop, take-append-drop}
 use Rattle.std.proofs.ByRecursion.{All-map}
 use Rattle.std.proofs.lemmas.Bool.{and_parts, eqb-true}
@@ -11,7 +11,7 @@ use Rattle.chains.specs.Layout.{Disk, Entry, Contains, NumberedSector, sector, n
 use Rattle.chains.specs.Reading.{Found, read, zeros, sector_at, place, directory_from}
 use Rattle.rules.proofs.Inverts.{must_tells, from_here, whole_at, zeros_are}
 
-all_counting : (P : ℕ → Type 0) (a n : ℕ) → ((j : ℕ) → a ≤ j → j < a + n → P j) → All P (range_with_len a n)
+all_counting : (P : ℕ → Type 0) (a n : ℕ) → ((j : ℕ) → a ≤ j → j < a + n → P j) → AllByRecursion P (range_with_len a n)
 all_counting P a zero h = tt
 all_counting P a (suc n) h = (h a (omega arith) (omega arith), all_counting P (a + 1) n (λ j p q. h j (omega arith) (omega arith)))
 
@@ -54,7 +54,7 @@ quarters xs =
     let q : drop 40 (drop 80 xs) ≡ drop 120 xs = drop-drop 40 80 xs in
     cc
 
-module _ (ss : Disk) (w : All WellFormed ss) where
+module _ (ss : Disk) (w : AllByRecursion WellFormed ss) where
   one_sector : (es : List (Option Entry)) → ((i : ℕ) → i < 96 → place ss (0 + i) ≡ place_bytes (get_or es i None)) → (i : ℕ) → i < 32 → Framed ss i → sector_at ss (4 + i) ≡ sector (directory_bytes es i) (directory_back i) (directory_forward i)
   one_sector es bytes i l fr =
       let s : Sector = sector_at ss (4 + i) in

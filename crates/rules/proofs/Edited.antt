@@ -1,6 +1,6 @@
 -- One file's records changed, in a directory and in the model.
 use Rattle.std.proofs.Common.{◌≡◌, ℕ, suc, Bool, true, false, cond, ◌&&◌, ◌||◌, ltb, leb, List, [], ◌∷◌, ◌++◌, map, length, Some, None, Option, unwrap_or, sym, refl, ap, ◌∙◌, subst}
-use Rattle.std.specs.List.{AllByRecursion as All}
+use Rattle.std.specs.List.{AllByRecursion}
 use Rattle.std.proofs.lemmas.Bool.{or_parts, both_ways}
 use Rattle.std.proofs.lemmas.List.{append_assoc}
 use Rattle.std.proofs.ByRecursion.{All-append}
@@ -93,7 +93,7 @@ module _ (n : List ℕ) (g : List Placed → List Placed) where
   as_many_places (None ∷ es) = ap suc (as_many_places es)
   as_many_places (Some f ∷ es) = ap suc (as_many_places es)
 
-  still_legal : (es : List (Option Entry)) → All (λ f. legal f.name ≡ true) (entries es) → All (λ f. legal f.name ≡ true) (entries (edited_in es))
+  still_legal : (es : List (Option Entry)) → AllByRecursion (λ f. legal f.name ≡ true) (entries es) → AllByRecursion (λ f. legal f.name ≡ true) (entries (edited_in es))
   still_legal [] h = h
   still_legal (None ∷ es) h = still_legal es h
   still_legal (Some f ∷ es) h = (h.0, still_legal es h.1)
@@ -109,13 +109,13 @@ module _ (n : List ℕ) (g : List Placed → List Placed) where
   still_distinct (Some f ∷ es) h = (still_named f.name es ∙ h.0, still_distinct es h.1)
 
   abbrev Full : List Placed → Type 0
-  Full = All (λ p. length p.bytes ≡ 128)
+  Full = AllByRecursion (λ p. length p.bytes ≡ 128)
 
   full_if : (t : Bool) (ps : List Placed) → (Full ps → Full (g ps)) → Full ps → Full (cond t (g ps) ps)
   full_if true ps k h = k h
   full_if false ps k h = h
 
-  still_full : ((ps : List Placed) → Full ps → Full (g ps)) → (es : List (Option Entry)) → All (λ f. Full f.records) (entries es) → All (λ f. Full f.records) (entries (edited_in es))
+  still_full : ((ps : List Placed) → Full ps → Full (g ps)) → (es : List (Option Entry)) → AllByRecursion (λ f. Full f.records) (entries es) → AllByRecursion (λ f. Full f.records) (entries (edited_in es))
   still_full k [] h = h
   still_full k (None ∷ es) h = still_full k es h
   still_full k (Some f ∷ es) h = (full_if (same n f.name) f.records (k f.records) h.0, still_full k es h.1)
@@ -161,23 +161,23 @@ module _ (n : List ℕ) (g : List Placed → List Placed) (h : List (List ℕ) �
 -- the sectors of a layout's chains, with unused ones, are apart and usable
 module _ (d : Layout) (proper : ValidLayout d) (fresh : List ℕ) (unused : Unused d fresh) (es : List (Option Entry))
     (part : Part (addresses es) (fresh ++ addresses d.places)) where
-  pub still_usable : All (λ m. (leb reserved m && ltb m d.size) ≡ true) (numbers (chains es))
+  pub still_usable : AllByRecursion (λ m. (leb reserved m && ltb m d.size) ≡ true) (numbers (chains es))
   still_usable =
       let P : ℕ → Type 0 = λ m. (leb reserved m && ltb m d.size) ≡ true in
-      let old : All P (addresses d.places) = subst (All P) (numbers_chains d.places) proper.usable in
-      subst (All P) (sym (numbers_chains es)) (part_all P part (All-append P fresh (addresses d.places) unused.usable old))
+      let old : AllByRecursion P (addresses d.places) = subst (AllByRecursion P) (numbers_chains d.places) proper.usable in
+      subst (AllByRecursion P) (sym (numbers_chains es)) (part_all P part (All-append P fresh (addresses d.places) unused.usable old))
 
   pub still_apart : DistinctNumbers (numbers (chains es))
   still_apart =
       let old : DistinctNumbers (addresses d.places) = subst DistinctNumbers (numbers_chains d.places) proper.apart in
-      let out : All (λ m. member m (addresses d.places) ≡ false) fresh = subst (λ ns. All (λ m. member m ns ≡ false) fresh) (numbers_chains d.places) unused.outside in
+      let out : AllByRecursion (λ m. member m (addresses d.places) ≡ false) fresh = subst (λ ns. AllByRecursion (λ m. member m ns ≡ false) fresh) (numbers_chains d.places) unused.outside in
       subst DistinctNumbers (sym (numbers_chains es)) (part_apart part (apart_join fresh (addresses d.places) unused.distinct out old))
 
 -- a change of one file's records: the bytes as `h` says, the sectors old ones and fresh ones, every record whole
 pub record Edits (g : List Placed → List Placed) (h : List (List ℕ) → List (List ℕ)) (fresh : List ℕ) : Type 0 where
   pub alike : (ps : List Placed) → map (λ p. p.bytes) (g ps) ≡ h (map (λ p. p.bytes) ps)
   pub part : (ps : List Placed) → Part (ats (g ps)) (fresh ++ ats ps)
-  pub whole : (ps : List Placed) → All (λ p. length p.bytes ≡ 128) ps → All (λ p. length p.bytes ≡ 128) (g ps)
+  pub whole : (ps : List Placed) → AllByRecursion (λ p. length p.bytes ≡ 128) ps → AllByRecursion (λ p. length p.bytes ≡ 128) (g ps)
 
 pub proper_edited : (d : Layout) (n : List ℕ) (g : List Placed → List Placed) (h : List (List ℕ) → List (List ℕ)) (fresh : List ℕ) →
     Edits g h fresh → Unused d fresh → ValidLayout d → ValidLayout (with_places d (edited_in n g d.places))

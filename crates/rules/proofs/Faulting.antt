@@ -1,6 +1,6 @@
 -- The codes and layers that INITIALIZE answers with: no fault of reading is coded as done, and only such a fault is one of the structure.
 use Rattle.std.proofs.Common.{◌≡◌, ℕ, zero, suc, ◌+◌, ◌/◌, Bool, true, false, cond, not, ◌&&◌, eqb, List, [], ◌∷◌, ◌++◌, map, length, get_or, take, drop, Option, refl, arith}
-use Rattle.std.specs.List.{AllByRecursion as All}
+use Rattle.std.specs.List.{AllByRecursion}
 use Rattle.device.specs.Codes.{code_number, layer_number}
 use Rattle.device.specs.declared.fault.Code.{Code}
 use Rattle.device.specs.declared.fault.Code.TheVariants.{Done, PointerError, NotInDirectory, BadEntry, BadLabel, MapWrong}
@@ -103,7 +103,7 @@ NotDone (faulty c n) = c ≡ code_number Done → ⊥
 NotDone (sound fs) = Unit {0}
 
 module _ (b : Model) (buf : List ℕ) where
-  coded : (cs : List Check) (o : Outcome) → All (λ c. code_number c.code ≡ code_number Done → ⊥) cs → (o.code ≡ code_number Done → o.refused ≡ false) →
+  coded : (cs : List Check) (o : Outcome) → AllByRecursion (λ c. code_number c.code ≡ code_number Done → ⊥) cs → (o.code ≡ code_number Done → o.refused ≡ false) →
       (first_refusal_or b buf cs o).code ≡ code_number Done → (first_refusal_or b buf cs o).refused ≡ false
   coded [] o h k e = k e
   coded (c ∷ cs) o h k e = step c.applies (coded cs o h.1 k) e
@@ -113,7 +113,7 @@ module _ (b : Model) (buf : List ℕ) where
       step true f e = absurd (h.0 e)
       step false f e = f e
 
-  layered : (cs : List Check) (o : Outcome) → All (λ c. layer_number c.layer ≡ layer_number Structure → ⊥) cs →
+  layered : (cs : List Check) (o : Outcome) → AllByRecursion (λ c. layer_number c.layer ≡ layer_number Structure → ⊥) cs →
       (first_refusal_or b buf cs o).layer ≡ layer_number Structure → o.layer ≡ layer_number Structure
   layered [] o h e = e
   layered (c ∷ cs) o h e = step c.applies (layered cs o h.1) e

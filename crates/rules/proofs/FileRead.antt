@@ -1,7 +1,7 @@
 -- A place that is accepted shows its file.
 use Rattle.device.specs.declared.fault.Code.TheVariants.{BadEntry, NotInDirectory, PointerError}
 use Rattle.std.proofs.Common.{◌≡◌, ℕ, suc, ◌+◌, ◌-◌, ◌/◌, ◌%◌, ◌^◌, ◌<◌, ◌≤◌, min, Bool, true, false, not, ◌&&◌, eqb, List, [], ◌∷◌, ◌++◌, length, get_or, take, drop, replicate, Some, sym, ap, ◌∙◌, subst, arith}
-use Rattle.std.specs.List.{AllByRecursion as All}
+use Rattle.std.specs.List.{AllByRecursion}
 use Rattle.std.proofs.lemmas.List.{drop_more, drop-drop, take-append-drop, take_at, length-take, length-drop}
 use Rattle.std.proofs.ByRecursion.{All-get_or}
 use Rattle.std.proofs.lemmas.Bool.{and_parts, eqb-true, or_parts, not-true}
@@ -17,10 +17,10 @@ use Rattle.rules.proofs.Inverts.{must_tells, then_tells, read_same, absent, outs
 use Rattle.rules.proofs.WalkRead.{WalkShown, walk_tells}
 
 -- the 16 bits at i are those of n
-digits : (xs : List ℕ) → All (λ b. b < 2 ^ 8) xs → (i n : ℕ) → i < length xs → number xs i ≡ n → (n % 256 ≡ get_or xs i 0) × (n / 256 ≡ get_or xs (i + 1) 0)
+digits : (xs : List ℕ) → AllByRecursion (λ b. b < 2 ^ 8) xs → (i n : ℕ) → i < length xs → number xs i ≡ n → (n % 256 ≡ get_or xs i 0) × (n / 256 ≡ get_or xs (i + 1) 0)
 digits xs h i n l e = let b : get_or xs i 0 < 256 = All-get_or (λ b. b < 2 ^ 8) xs i 0 l h in (omega arith, omega arith)
 
-descriptor_is : (xs name : List ℕ) (a b c : ℕ) → length xs ≡ 128 → All (λ b. b < 2 ^ 8) xs → number xs 0 ≡ a → number xs 2 ≡ b → number xs 4 ≡ c → get_or xs 6 0 ≡ 0 → take 33 (drop 7 xs) ≡ length name ∷ padded 32 name → zeros (drop 40 xs) ≡ true →
+descriptor_is : (xs name : List ℕ) (a b c : ℕ) → length xs ≡ 128 → AllByRecursion (λ b. b < 2 ^ 8) xs → number xs 0 ≡ a → number xs 2 ≡ b → number xs 4 ≡ c → get_or xs 6 0 ≡ 0 → take 33 (drop 7 xs) ≡ length name ∷ padded 32 name → zeros (drop 40 xs) ≡ true →
     xs ≡ word a ++ (word b ++ (word c ++ (0 ∷ length name ∷ (padded 32 name ++ replicate 88 0))))
 descriptor_is xs name a b c long small ea eb ec mid named zs =
     let e0 : xs ≡ get_or xs 0 0 ∷ drop 1 xs = drop_more xs 0 0 (omega arith) in
@@ -47,20 +47,20 @@ descriptor_is xs name a b c long small ea eb ec mid named zs =
 pub record Filed (ss : Disk) (visited : List ℕ) (names : List (List ℕ)) (bs : List ℕ) (f : Entry) : Type 0 where
   pub bytes : bs ≡ place_bytes (Some f)
   pub legal_name : legal f.name ≡ true
-  pub new : All (λ n. same f.name n ≡ false) names
+  pub new : AllByRecursion (λ n. same f.name n ≡ false) names
   pub shows : Contains (chain f) ss
-  pub within : All (λ n. usable ss n ≡ true) (numbers (chain f))
+  pub within : AllByRecursion (λ n. usable ss n ≡ true) (numbers (chain f))
   pub apart : DistinctNumbers (numbers (chain f))
-  pub fresh : All (λ n. member n visited ≡ false) (numbers (chain f))
-  pub full : All (λ p. length p.bytes ≡ 128) f.records
+  pub fresh : AllByRecursion (λ n. member n visited ≡ false) (numbers (chain f))
+  pub full : AllByRecursion (λ p. length p.bytes ≡ 128) f.records
 
-not_among : (name : List ℕ) (ns : List (List ℕ)) → among name ns ≡ false → All (λ n. same name n ≡ false) ns
+not_among : (name : List ℕ) (ns : List (List ℕ)) → among name ns ≡ false → AllByRecursion (λ n. same name n ≡ false) ns
 not_among name [] h = tt
 not_among name (n ∷ ns) h = let p = or_parts (same name n) (among name ns) h in (p.0, not_among name ns p.1)
 
-module _ (ss : Disk) (w : All WellFormed ss) where
+module _ (ss : Disk) (w : AllByRecursion WellFormed ss) where
   filed : (visited : List ℕ) (names : List (List ℕ)) (bs name : List ℕ) (at : ℕ) (ps : List Placed) →
-      bs ≡ get_or bs 0 0 ∷ (padded 32 name ++ (word at ++ replicate 5 0)) → get_or bs 0 0 ≡ length name → legal name ≡ true → All (λ n. same name n ≡ false) names → usable ss at ≡ true → member at visited ≡ false →
+      bs ≡ get_or bs 0 0 ∷ (padded 32 name ++ (word at ++ replicate 5 0)) → get_or bs 0 0 ≡ length name → legal name ≡ true → AllByRecursion (λ n. same name n ≡ false) names → usable ss at ≡ true → member at visited ≡ false →
       take 33 (drop 7 (sector_at ss at).bytes) ≡ take 33 bs → get_or (sector_at ss at).bytes 6 0 ≡ 0 → zeros (drop 40 (sector_at ss at).bytes) ≡ true → (sector_at ss at).back ≡ null → number (sector_at ss at).bytes 0 ≡ (sector_at ss at).forward → number (sector_at ss at).bytes 2 ≡ last_of ps →
       WalkShown ss (at ∷ visited) at (number (sector_at ss at).bytes 4) ps →
       Filed ss visited names bs (record { name = name; at = at; records = ps })

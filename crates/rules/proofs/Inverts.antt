@@ -1,7 +1,7 @@
 -- What an accepted step of a reading tells.
 use Rattle.device.specs.declared.fault.Code.{Code}
 use Rattle.std.proofs.Common.{◌≡◌, ℕ, suc, ◌+◌, ◌^◌, ◌<◌, ◌≤◌, Bool, true, false, cond, eqb, ◌⊎◌, List, [], ◌∷◌, ◌++◌, length, replicate, sym, refl, subst, inl, inr, ⊎_elim, arith, lit<}
-use Rattle.std.specs.List.{AllByRecursion as All}
+use Rattle.std.specs.List.{AllByRecursion}
 use Rattle.std.proofs.lemmas.List.{get_or-replicate, get_or_past}
 use Rattle.std.proofs.ByRecursion.{All-get_or, All-from_get_or, All-weaker}
 use Rattle.std.proofs.lemmas.Bool.{and_parts, eqb-true, or_parts, or_from, cases_lt, cases_eq}
@@ -46,14 +46,14 @@ zeros_are (x ∷ xs) e =
     cc
 
 -- numbers outside a list do not hold what is in it
-pub absent : (x : ℕ) (xs ns : List ℕ) → All (λ n. member n (x ∷ xs) ≡ false) ns → member x ns ≡ false
+pub absent : (x : ℕ) (xs ns : List ℕ) → AllByRecursion (λ n. member n (x ∷ xs) ≡ false) ns → member x ns ≡ false
 absent x xs [] h = refl
 absent x xs (n ∷ ns) h = or_from (eqb x n) (member x ns) (differs x n (or_parts (eqb n x) (member n xs) h.0).0) (absent x xs ns h.1)
 
-pub outside_rest : (x : ℕ) (xs ns : List ℕ) → All (λ n. member n (x ∷ xs) ≡ false) ns → All (λ n. member n xs ≡ false) ns
+pub outside_rest : (x : ℕ) (xs ns : List ℕ) → AllByRecursion (λ n. member n (x ∷ xs) ≡ false) ns → AllByRecursion (λ n. member n xs ≡ false) ns
 outside_rest x xs = All-weaker (λ n. member n (x ∷ xs) ≡ false) (λ n. member n xs ≡ false) (λ n e. (or_parts (eqb n x) (member n xs) e).1)
 
-pub all_absent : (xs ys ns : List ℕ) → All (λ n. member n (xs ++ ys) ≡ false) ns → All (λ n. member n ns ≡ false) xs
+pub all_absent : (xs ys ns : List ℕ) → AllByRecursion (λ n. member n (xs ++ ys) ≡ false) ns → AllByRecursion (λ n. member n ns ≡ false) xs
 all_absent [] ys ns h = tt
 all_absent (x ∷ xs) ys ns h = (absent x (xs ++ ys) ns h, all_absent xs ys ns (outside_rest x (xs ++ ys) ns h))
 
@@ -66,5 +66,5 @@ blank_whole : WellFormed blank
 unfolding blank
 blank_whole = record { count = refl; bytes = All-from_get_or (λ b. b < 2 ^ 8) (replicate 128 0) 0 (λ i h. rw (get_or-replicate {A = ℕ} 128 i 0 0 h) (lit< tt)); back = omega arith; forward = omega arith }
 
-pub whole_at : (ss : Disk) → All WellFormed ss → (n : ℕ) → WellFormed (sector_at ss n)
+pub whole_at : (ss : Disk) → AllByRecursion WellFormed ss → (n : ℕ) → WellFormed (sector_at ss n)
 whole_at ss w n = ⊎_elim (λ (l : n < length ss). All-get_or WellFormed ss n blank l w) (λ (l : length ss ≤ n). rw (get_or_past ss n blank l) blank_whole) (cases_lt n (length ss))

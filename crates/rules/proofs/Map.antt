@@ -1,6 +1,6 @@
 -- When the map of a layout is still right after a change of one file.
 use Rattle.std.proofs.Common.{◌≡◌, ℕ, Bool, true, false, cond, ◌||◌, ltb, leb, List, [], ◌∷◌, map, length, Some, None, Option, unwrap_or, sym, refl, ap, ◌∙◌}
-use Rattle.std.specs.List.{AllByRecursion as All}
+use Rattle.std.specs.List.{AllByRecursion}
 use Rattle.std.proofs.lemmas.Bool.{both_ways, or_parts}
 use Rattle.std.proofs.lemmas.List.{length-map}
 use Rattle.std.proofs.ByRecursion.{All-weaker}
@@ -22,7 +22,7 @@ pub still_current : (d : Layout) (es : List (Option Entry)) → addresses es ≡
 still_current d es e c = c ∙ ap (marked d.size) (numbers_chains d.places ∙ (sym e ∙ sym (numbers_chains es)))
 
 module _ (n : List ℕ) where
-  absent_all : (P : Entry → Type 0) (fs : List Entry) → named n fs ≡ false → All (λ f. same n f.name ≡ true → P f) fs
+  absent_all : (P : Entry → Type 0) (fs : List Entry) → named n fs ≡ false → AllByRecursion (λ f. same n f.name ≡ true → P f) fs
   absent_all P [] o = tt
   absent_all P (f ∷ fs) o =
       let parts = or_parts (same n f.name) (named n fs) o in
@@ -30,15 +30,15 @@ module _ (n : List ℕ) where
 
   -- the entry of the name n holds what is found under n
   pub entry_found : (es : List (Option Entry)) → DistinctNames (entries es) →
-      All (λ f. same n f.name ≡ true → map (λ p. p.bytes) f.records ≡ unwrap_or (find n (files_in es)) []) (entries es)
+      AllByRecursion (λ f. same n f.name ≡ true → map (λ p. p.bytes) f.records ≡ unwrap_or (find n (files_in es)) []) (entries es)
   entry_found [] h = tt
   entry_found (None ∷ es) h = entry_found es h
   entry_found (Some f ∷ es) h = step (same n f.name) refl (entry_found es h.1)
     where
       step : (t : Bool) → same n f.name ≡ t →
-          All (λ g. same n g.name ≡ true → map (λ p. p.bytes) g.records ≡ unwrap_or (find n (files_in es)) []) (entries es) →
+          AllByRecursion (λ g. same n g.name ≡ true → map (λ p. p.bytes) g.records ≡ unwrap_or (find n (files_in es)) []) (entries es) →
           (same n f.name ≡ true → map (λ p. p.bytes) f.records ≡ unwrap_or (cond t (Some (map (λ p. p.bytes) f.records)) (find n (files_in es))) []) ×
-          All (λ g. same n g.name ≡ true → map (λ p. p.bytes) g.records ≡ unwrap_or (cond t (Some (map (λ p. p.bytes) f.records)) (find n (files_in es))) []) (entries es)
+          AllByRecursion (λ g. same n g.name ≡ true → map (λ p. p.bytes) g.records ≡ unwrap_or (cond t (Some (map (λ p. p.bytes) f.records)) (find n (files_in es))) []) (entries es)
       step true e ih = ((λ _. refl), absent_all _ (entries es) (rw (same_eq n f.name e) h.0))
       step false e ih = ((λ e'. absurd (both_ways (same n f.name) e e')), ih)
 
@@ -47,7 +47,7 @@ module _ (n : List ℕ) where
     ats_if true ps h = h refl
     ats_if false ps h = refl
 
-    addresses_same : (es : List (Option Entry)) → All (λ f. same n f.name ≡ true → ats (g f.records) ≡ ats f.records) (entries es) → addresses (edited_in n g es) ≡ addresses es
+    addresses_same : (es : List (Option Entry)) → AllByRecursion (λ f. same n f.name ≡ true → ats (g f.records) ≡ ats f.records) (entries es) → addresses (edited_in n g es) ≡ addresses es
     addresses_same [] h = refl
     addresses_same (None ∷ es) h = addresses_same es h
     addresses_same (Some f ∷ es) h =

@@ -1,7 +1,7 @@
 -- Map sectors that are accepted mark what is allocated, and nothing else.
 use Rattle.device.specs.declared.fault.Code.TheVariants.{MapWrong}
 use Rattle.std.proofs.Common.{◌≡◌, ℕ, zero, suc, ◌+◌, ◌*◌, ◌/◌, ◌%◌, ◌^◌, ◌<◌, ◌≤◌, Bool, true, false, cond, not, eqb, List, [], ◌∷◌, map, length, get_or, sym, refl, ◌∙◌, arith}
-use Rattle.std.specs.List.{range_with_len, AllByRecursion as All}
+use Rattle.std.specs.List.{range_with_len, AllByRecursion}
 use Rattle.std.proofs.lemmas.List.FromFn.{fill_by_all}
 use Rattle.std.proofs.ByRecursion.{All-get_or}
 use Rattle.std.proofs.lemmas.Bool.{and_parts, eqb-true, not-true}
@@ -42,7 +42,7 @@ all_below p a (suc n) e i l h =
 byte_bits : (b : ℕ) → b < 256 → b ≡ again b
 byte_bits b h = eqb-true b (again b) (all_below (λ b. eqb b (again b)) 0 256 refl b (omega arith) (omega arith))
 
-module _ (ss : Disk) (w : All WellFormed ss) (m : ℕ → Bool) (right : (n : ℕ) → n < 3072 → marks ss n ≡ m n) where
+module _ (ss : Disk) (w : AllByRecursion WellFormed ss) (m : ℕ → Bool) (right : (n : ℕ) → n < 3072 → marks ss n ≡ m n) where
   one_bit : (j k r n : ℕ) → j < 3 → k < 128 → r < 8 → n ≡ 1024 * j + 8 * k + r → m n ≡ has_bit (get_or (sector_at ss (1 + j)).bytes k 0) r
   one_bit j k r n lj lk lr e =
       let s : n / 1024 ≡ j = omega arith in

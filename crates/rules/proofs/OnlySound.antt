@@ -1,7 +1,7 @@
 -- What reading accepts is sound.
 use Rattle.device.specs.declared.fault.Code.TheVariants.{BadLabel}
 use Rattle.std.proofs.Common.{◌≡◌, ℕ, ◌+◌, ◌<◌, ◌≤◌, true, ◌&&◌, List, [], ◌++◌, length, get_or, Option, sym, refl, ap, ◌∙◌, subst, arith}
-use Rattle.std.specs.List.{AllByRecursion as All}
+use Rattle.std.specs.List.{AllByRecursion}
 use Rattle.std.proofs.ByRecursion.{All-append}
 use Rattle.std.proofs.lemmas.Bool.{and_parts}
 use Rattle.device.specs.Device.{blank, WellFormed}
@@ -32,7 +32,7 @@ record Surveyed (ss : Disk) (n k : ℕ) (d : Layout) : Type 0 where
   framed : (j : ℕ) → 0 ≤ j → j < 0 + n → Framed ss j
   listed : PlacesShown ss k 0 [] [] places
 
-module _ (ss : Disk) (w : All WellFormed ss) where
+module _ (ss : Disk) (w : AllByRecursion WellFormed ss) where
   survey_tells : (n k : ℕ) (d : Layout) → surveyed ss n k ≡ read d → Surveyed ss n k d
   survey_tells n k d e =
       let end : List (Option Entry) → Found Layout = λ es. read (shown_with ss es) in
@@ -74,7 +74,7 @@ module _ (ss : Disk) (w : All WellFormed ss) where
       let current : f.map ≡ map_bytes (allocated (length ss) f.places) = ap (λ x. x.map) (sym s.is) ∙ map_is ss w (allocated (length ss) f.places) (λ j h. g.each j (omega arith) (omega arith)) in
       subst (λ d. Sound d ss) (read_same g.after) (sound_with n k en ek size f s current)
 
-pub only : (ss : Disk) → All WellFormed ss → ReadsOnlySound ss
+pub only : (ss : Disk) → AllByRecursion WellFormed ss → ReadsOnlySound ss
 only ss w d size e = only_with ss w 32 96 3072 refl refl refl size d e
 
 pub reading_is_exact : ReadingIsExact

@@ -1,6 +1,6 @@
 -- A disk with the sectors of a layout written over shows that layout.
 use Rattle.std.proofs.Common.{◌≡◌, ℕ, zero, suc, ◌+◌, ◌<◌, ◌≤◌, true, false, not, ◌&&◌, eqb, ltb, leb, List, [], ◌∷◌, ◌++◌, length, get_or, set, sym, refl, ap, ◌∙◌, subst, arith}
-use Rattle.std.specs.List.{AllByRecursion as All}
+use Rattle.std.specs.List.{AllByRecursion}
 use Rattle.std.proofs.lemmas.Bool.{or_parts, and_parts, eqb-false, ne_eqb, ltb-true, leb-true}
 use Rattle.std.proofs.lemmas.List.{get_or-set_same, get_or-set_other, set-get_or}
 use Rattle.std.proofs.ByRecursion.{All-append, All-weaker}
@@ -27,7 +27,7 @@ shows_beside (x ∷ xs) ss a o h =
     let parts = or_parts (eqb a.number x.number) (member a.number (numbers xs)) o in
     (get_or-set_other ss a.number x.number a.content blank (λ e. eqb-false a.number x.number parts.0 (sym e)) ∙ h.0, shows_beside xs ss a parts.1 h.1)
 
-pub over_shows : (xs : List NumberedSector) (ss : Disk) → DistinctNumbers (numbers xs) → All (λ n. n < length ss) (numbers xs) → Contains xs (overwritten xs ss)
+pub over_shows : (xs : List NumberedSector) (ss : Disk) → DistinctNumbers (numbers xs) → AllByRecursion (λ n. n < length ss) (numbers xs) → Contains xs (overwritten xs ss)
 over_shows [] ss a h = tt
 over_shows (x ∷ xs) ss a h =
     (get_or-set_same (overwritten xs ss) x.number x.content blank (rw (length_over xs ss) h.0), shows_beside xs (overwritten xs ss) x a.0 (over_shows xs ss a.1 h.1))
@@ -45,13 +45,13 @@ module _ (d : Layout) (p : ValidLayout d) where
   abbrev used : List ℕ
   used = numbers (chains d.places)
 
-  below : (n : ℕ) (ns : List ℕ) → n < reserved → All (λ m. (leb reserved m && ltb m d.size) ≡ true) ns → member n ns ≡ false
+  below : (n : ℕ) (ns : List ℕ) → n < reserved → AllByRecursion (λ m. (leb reserved m && ltb m d.size) ≡ true) ns → member n ns ≡ false
   below n [] l h = refl
   below n (m ∷ ns) l h =
       let a : reserved ≤ m = leb-true reserved m (and_parts (leb reserved m) (ltb m d.size) h.0).0 in
       rw (ne_eqb n m (λ e. omega arith)) (below n ns l h.1)
 
-  all_below : (lo k : ℕ) → lo + k ≤ reserved → All (λ n. n < reserved) (range lo k)
+  all_below : (lo k : ℕ) → lo + k ≤ reserved → AllByRecursion (λ n. n < reserved) (range lo k)
   all_below lo zero h = tt
   all_below lo (suc k) h = (omega arith, all_below (lo + 1) k (omega arith))
 
@@ -60,16 +60,16 @@ module _ (d : Layout) (p : ValidLayout d) where
       subst DistinctNumbers (sym (numbers_fixed d))
       (apart_join (range 0 36) used (apart_range 0 36) (All-weaker (λ n. n < reserved) _ (λ n l. below n used l p.usable) (range 0 36) (all_below 0 36 (omega arith))) p.apart)
 
-  pub within_fixed : All (λ n. n < d.size) (numbers (fixed_sectors d))
+  pub within_fixed : AllByRecursion (λ n. n < d.size) (numbers (fixed_sectors d))
   within_fixed =
       let big = leb-true 64 d.size (and_parts (leb 64 d.size) (leb d.size 2464) p.size).0 in
-      subst (All (λ n. n < d.size)) (sym (numbers_fixed d))
+      subst (AllByRecursion (λ n. n < d.size)) (sym (numbers_fixed d))
       (All-append (λ n. n < d.size) (range 0 36) used
       (All-weaker (λ n. n < reserved) (λ n. n < d.size) (λ n l. omega arith) (range 0 36) (all_below 0 36 (omega arith)))
       (All-weaker _ (λ n. n < d.size) (λ n h. ltb-true n d.size (and_parts (leb reserved n) (ltb n d.size) h).1) used p.usable))
 
   pub shown : (ss : Disk) → length ss ≡ d.size → Contains (fixed_sectors d) (overwritten (fixed_sectors d) ss)
-  shown ss e = over_shows (fixed_sectors d) ss apart_fixed (subst (λ s. All (λ n. n < s) (numbers (fixed_sectors d))) (sym e) within_fixed)
+  shown ss e = over_shows (fixed_sectors d) ss apart_fixed (subst (λ s. AllByRecursion (λ n. n < s) (numbers (fixed_sectors d))) (sym e) within_fixed)
 
 -- with every unit closed, the disk written is sound
 pub written_sound : (b : Model) (d : Layout) (ss : Disk) → Follows b d → any (λ s. not (is_closed s)) b.units ≡ false → length ss ≡ d.size → Sound d (overwritten (fixed_sectors d) ss)

@@ -1,6 +1,6 @@
 -- Places that are accepted show their files, which keep apart.
 use Rattle.std.proofs.Common.{◌≡◌, ℕ, zero, suc, ◌+◌, ◌*◌, ◌/◌, ◌%◌, ◌<◌, ◌≤◌, true, false, List, [], ◌∷◌, ◌++◌, length, get_or, replicate, Some, None, Option, sym, refl, ap, ◌∙◌, subst, ⊎_elim, arith}
-use Rattle.std.specs.List.{AllByRecursion as All}
+use Rattle.std.specs.List.{AllByRecursion}
 use Rattle.std.proofs.lemmas.List.{length-take, length-drop, map-append}
 use Rattle.std.proofs.ByRecursion.{All-weaker, All-append}
 use Rattle.std.proofs.lemmas.Bool.{or_from}
@@ -14,7 +14,7 @@ use Rattle.rules.proofs.Addresses.{part_nil, part_after, part_member, apart_join
 use Rattle.rules.proofs.Inverts.{then_tells, cond_tells, read_same, all_absent, whole_at, zeros_are}
 use Rattle.rules.proofs.FileRead.{Filed, file_tells}
 
-not_named : (name : List ℕ) (names : List (List ℕ)) (fs : List Entry) → All (λ f. All (λ n. same f.name n ≡ false) (name ∷ names)) fs → named name fs ≡ false
+not_named : (name : List ℕ) (names : List (List ℕ)) (fs : List Entry) → AllByRecursion (λ f. AllByRecursion (λ n. same f.name n ≡ false) (name ∷ names)) fs → named name fs ≡ false
 not_named name names [] h = refl
 not_named name names (f ∷ fs) h = or_from (same name f.name) (named name fs) (same_turned name f.name ∙ h.0.0) (not_named name names fs h.1)
 
@@ -22,19 +22,19 @@ pub record PlacesShown (ss : Disk) (k p : ℕ) (visited : List ℕ) (names : Lis
   pub count : length es ≡ k
   pub bytes : (i : ℕ) → i < k → place ss (p + i) ≡ place_bytes (get_or es i None)
   pub shows : Contains (chains es) ss
-  pub legal_names : All (λ f. legal f.name ≡ true) (entries es)
-  pub new : All (λ f. All (λ n. same f.name n ≡ false) names) (entries es)
+  pub legal_names : AllByRecursion (λ f. legal f.name ≡ true) (entries es)
+  pub new : AllByRecursion (λ f. AllByRecursion (λ n. same f.name n ≡ false) names) (entries es)
   pub distinct : DistinctNames (entries es)
-  pub within : All (λ n. usable ss n ≡ true) (numbers (chains es))
+  pub within : AllByRecursion (λ n. usable ss n ≡ true) (numbers (chains es))
   pub apart : DistinctNumbers (numbers (chains es))
-  pub fresh : All (λ n. member n visited ≡ false) (numbers (chains es))
-  pub full : All (λ f. All (λ p. length p.bytes ≡ 128) f.records) (entries es)
+  pub fresh : AllByRecursion (λ n. member n visited ≡ false) (numbers (chains es))
+  pub full : AllByRecursion (λ f. AllByRecursion (λ p. length p.bytes ≡ 128) f.records) (entries es)
 
 bytes_more : (ss : Disk) (k p : ℕ) (e : Option Entry) (es : List (Option Entry)) → place ss p ≡ place_bytes e → ((i : ℕ) → i < k → place ss (p + 1 + i) ≡ place_bytes (get_or es i None)) → (i : ℕ) → i < suc k → place ss (p + i) ≡ place_bytes (get_or (e ∷ es) i None)
 bytes_more ss k p e es here rest zero l = let z : p + 0 ≡ p = omega arith in ap (place ss) z ∙ here
 bytes_more ss k p e es here rest (suc i) l = let z : p + suc i ≡ p + 1 + i = omega arith in ap (place ss) z ∙ rest i (omega arith)
 
-module _ (ss : Disk) (w : All WellFormed ss) where
+module _ (ss : Disk) (w : AllByRecursion WellFormed ss) where
   place_long : (p : ℕ) → length (place ss p) ≡ 40
   place_long p =
       let n = (whole_at ss w (4 + p / 3)).count in
@@ -66,11 +66,11 @@ module _ (ss : Disk) (w : All WellFormed ss) where
         bytes = bytes_more ss k p (Some f) es g.bytes h.bytes;
         shows = All-append (λ a. get_or ss a.number blank ≡ a.content) (chain f) (chains es) g.shows h.shows;
         legal_names = (g.legal_name, h.legal_names);
-        new = (g.new, All-weaker (λ f'. All (λ n. same f'.name n ≡ false) (f.name ∷ names)) (λ f'. All (λ n. same f'.name n ≡ false) names) (λ f' a. a.1) (entries es) h.new);
+        new = (g.new, All-weaker (λ f'. AllByRecursion (λ n. same f'.name n ≡ false) (f.name ∷ names)) (λ f'. AllByRecursion (λ n. same f'.name n ≡ false) names) (λ f' a. a.1) (entries es) h.new);
         distinct = (not_named f.name names (entries es) h.new, h.distinct);
-        within = subst (All (λ n. usable ss n ≡ true)) (sym both) (All-append (λ n. usable ss n ≡ true) (numbers (chain f)) (numbers (chains es)) g.within h.within);
+        within = subst (AllByRecursion (λ n. usable ss n ≡ true)) (sym both) (All-append (λ n. usable ss n ≡ true) (numbers (chain f)) (numbers (chains es)) g.within h.within);
         apart = subst DistinctNumbers (sym both) (apart_join (numbers (chain f)) (numbers (chains es)) g.apart (all_absent (numbers (chain f)) visited (numbers (chains es)) h.fresh) h.apart);
-        fresh = subst (All (λ n. member n visited ≡ false)) (sym both) (All-append (λ n. member n visited ≡ false) (numbers (chain f)) (numbers (chains es)) g.fresh (All-weaker (λ n. member n (numbers (chain f) ++ visited) ≡ false) (λ n. member n visited ≡ false) (λ n e. part_member n (part_after visited (part_nil (numbers (chain f)))) e) (numbers (chains es)) h.fresh));
+        fresh = subst (AllByRecursion (λ n. member n visited ≡ false)) (sym both) (All-append (λ n. member n visited ≡ false) (numbers (chain f)) (numbers (chains es)) g.fresh (All-weaker (λ n. member n (numbers (chain f) ++ visited) ≡ false) (λ n. member n visited ≡ false) (λ n e. part_member n (part_after visited (part_nil (numbers (chain f)))) e) (numbers (chains es)) h.fresh));
         full = (g.full, h.full);
       }
 

@@ -1,6 +1,6 @@
 -- What two lists share that are rearrangements of each other.
 use Rattle.std.proofs.Common.{◌≡◌, ℕ, suc, Bool, true, false, cond, ◌||◌, eqb, List, [], ◌∷◌, ◌++◌, map, length, is_some, Some, sum_by, filter, sym, refl, ap, ◌∙◌, arith}
-use Rattle.std.specs.List.{AllByRecursion as All}
+use Rattle.std.specs.List.{AllByRecursion}
 use Rattle.std.proofs.lemmas.Bool.{or_parts, or_from, and_parts, eqb-true, eq-eqb, both_ways}
 use Rattle.std.proofs.lemmas.List.Sums.{sum_by-cons}
 use Rattle.chains.specs.Names.{same}
@@ -56,7 +56,7 @@ same_sum f (keep x {xs} {ys} p) = omega (arith, sum_by-cons f x xs, sum_by-cons 
 same_sum f (swap x y xs) = omega (arith, sum_by-cons f x (y ∷ xs), sum_by-cons f y xs, sum_by-cons f y (x ∷ xs), sum_by-cons f x xs)
 same_sum f (join p q) = same_sum f p ∙ same_sum f q
 
-pub all_of : {A : Type 0} (P : A → Type 0) {xs ys : List A} → Rearranged xs ys → All P xs → All P ys
+pub all_of : {A : Type 0} (P : A → Type 0) {xs ys : List A} → Rearranged xs ys → AllByRecursion P xs → AllByRecursion P ys
 all_of P none h = h
 all_of P (keep x p) h = (h.0, all_of P p h.1)
 all_of P (swap x y xs) h = (h.1.0, (h.0, h.1.1))

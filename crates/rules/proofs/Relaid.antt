@@ -1,6 +1,6 @@
 -- Single sectors written to a disk, as the layout that the disk then shows.
 use Rattle.std.proofs.Common.{◌≡◌, ℕ, zero, suc, ◌+◌, ◌*◌, ◌/◌, ◌<◌, ◌≤◌, true, false, ◌&&◌, ◌||◌, eqb, ltb, leb, List, [], ◌∷◌, ◌++◌, map, length, get_or, set, Some, None, Option, sym, refl, ap, ◌∙◌, subst, ⊎_elim, arith}
-use Rattle.std.specs.List.{range_with_len, AllByRecursion as All}
+use Rattle.std.specs.List.{range_with_len, AllByRecursion}
 use Rattle.std.proofs.lemmas.Bool.{both_ways, cases_eq, cases_Bool, eqb-true, eqb-false, eq-eqb, ne_eqb, or_cases, or_parts, or_from, or_left, or_right, and_parts, leb-true}
 use Rattle.std.proofs.lemmas.List.{ext_get_or, get_or-set_same, get_or-set_other, set-set, set_comm}
 use Rattle.std.proofs.ByRecursion.{All-append, All-map, All-weaker}
@@ -24,7 +24,7 @@ shown_alike (x ∷ xs) ss ts n h a b =
     (or_cases (eqb n x.number) (member n (numbers xs)) h)
 
 -- a disk that shows these sectors, and has the others as before, is the disk with them written over
-pub relaid : (xs : List NumberedSector) (ss ss' : Disk) → length ss' ≡ length ss → DistinctNumbers (numbers xs) → All (λ n. n < length ss) (numbers xs) → Contains xs ss' →
+pub relaid : (xs : List NumberedSector) (ss ss' : Disk) → length ss' ≡ length ss → DistinctNumbers (numbers xs) → AllByRecursion (λ n. n < length ss) (numbers xs) → Contains xs ss' →
     ((n : ℕ) → member n (numbers xs) ≡ false → get_or ss' n blank ≡ get_or ss n blank) → ss' ≡ overwritten xs ss
 relaid xs ss ss' long apart within shows others =
     ext_get_or blank ss' (overwritten xs ss) (long ∙ sym (length_over xs ss))
@@ -59,7 +59,7 @@ over_forgets (x ∷ xs) ss n s h =
     (cases_Bool (member n (numbers xs)))
 
 -- and so are sectors written over before, where all their numbers are written again
-pub over_over : (xs ys : List NumberedSector) (ss : Disk) → All (λ n. member n (numbers xs) ≡ true) (numbers ys) → overwritten xs (overwritten ys ss) ≡ overwritten xs ss
+pub over_over : (xs ys : List NumberedSector) (ss : Disk) → AllByRecursion (λ n. member n (numbers xs) ≡ true) (numbers ys) → overwritten xs (overwritten ys ss) ≡ overwritten xs ss
 over_over xs [] ss h = refl
 over_over xs (y ∷ ys) ss h = over_forgets xs (overwritten ys ss) y.number y.content h.0 ∙ over_over xs ys ss h.1
 
@@ -96,11 +96,11 @@ among_neither n (x ∷ xs) ys h k =
     let parts = or_parts (eqb n x.number) (member n (numbers xs)) h in
     or_from (eqb n x.number) (member n (numbers (xs ++ ys))) parts.0 (among_neither n xs ys parts.1 k)
 
-pub all_among : (ns : List ℕ) → All (λ n. member n ns ≡ true) ns
+pub all_among : (ns : List ℕ) → AllByRecursion (λ n. member n ns ≡ true) ns
 all_among [] = tt
 all_among (n ∷ ns) = (or_left (eqb n n) (member n ns) (eq-eqb n n refl), All-weaker (λ m. member m ns ≡ true) (λ m. (eqb m n || member m ns) ≡ true) (λ m h. or_right (eqb m n) (member m ns) h) ns (all_among ns))
 
-pub all_at : (P : ℕ → Type 0) (n : ℕ) (ns : List ℕ) → All P ns → member n ns ≡ true → P n
+pub all_at : (P : ℕ → Type 0) (n : ℕ) (ns : List ℕ) → AllByRecursion P ns → member n ns ≡ true → P n
 all_at P n [] h k = absurd (both_ways false refl k)
 all_at P n (m ∷ ns) h k =
     ⊎_elim (λ (e : eqb n m ≡ true). subst P (sym (eqb-true n m e)) h.0) (λ (e : member n ns ≡ true). all_at P n ns h.1 e) (or_cases (eqb n m) (member n ns) k)
@@ -159,7 +159,7 @@ directory_alike es es' h =
     let alike : (i : ℕ) → directory_bytes es i ≡ directory_bytes es' i = λ i. (let e0 = h (3 * i) in let e1 = h (3 * i + 1) in let e2 = h (3 * i + 2) in cc) in
     ap (λ (bytes : ℕ → List ℕ). map (λ i. numbered (4 + i) (sector (bytes i) (directory_back i) (directory_forward i))) (range_with_len 0 32)) (λ j i. alike i j)
 
-shown_by : {Y : Type 0} (f : Y → NumberedSector) (ss : Disk) (ys : List Y) → Contains (map f ys) ss → All (λ y. get_or ss (f y).number blank ≡ (f y).content) ys
+shown_by : {Y : Type 0} (f : Y → NumberedSector) (ss : Disk) (ys : List Y) → Contains (map f ys) ss → AllByRecursion (λ y. get_or ss (f y).number blank ≡ (f y).content) ys
 shown_by f ss [] h = tt
 shown_by f ss (y ∷ ys) h = (h.0, shown_by f ss ys h.1)
 
@@ -213,18 +213,18 @@ module _ (d : Layout) where
 -- ---- the chains
 
 -- what holds of the chains' sectors holds with one place changed, where it holds of the chain put there
-chains_put : (P : NumberedSector → Type 0) (o : Option Entry) → ((es : List (Option Entry)) → All P (chains es) → All P (chains (o ∷ es))) →
-    (es : List (Option Entry)) (p : ℕ) → All P (chains es) → All P (chains (set es p o))
+chains_put : (P : NumberedSector → Type 0) (o : Option Entry) → ((es : List (Option Entry)) → AllByRecursion P (chains es) → AllByRecursion P (chains (o ∷ es))) →
+    (es : List (Option Entry)) (p : ℕ) → AllByRecursion P (chains es) → AllByRecursion P (chains (set es p o))
 chains_put P o k [] p h = tt
 chains_put P o k (None ∷ es) zero h = k es h
 chains_put P o k (Some f ∷ es) zero h = k es (all_right P (chain f) (chains es) h)
 chains_put P o k (None ∷ es) (suc p) h = chains_put P o k es p h
 chains_put P o k (Some f ∷ es) (suc p) h = All-append P (chain f) (chains (set es p o)) (all_left P (chain f) (chains es) h) (chains_put P o k es p (all_right P (chain f) (chains es) h))
 
-pub chains_with : (P : NumberedSector → Type 0) (es : List (Option Entry)) (p : ℕ) (f : Entry) → All P (chains es) → All P (chain f) → All P (chains (set es p (Some f)))
+pub chains_with : (P : NumberedSector → Type 0) (es : List (Option Entry)) (p : ℕ) (f : Entry) → AllByRecursion P (chains es) → AllByRecursion P (chain f) → AllByRecursion P (chains (set es p (Some f)))
 chains_with P es p f h k = chains_put P (Some f) (λ fs a. All-append P (chain f) (chains fs) k a) es p h
 
-pub chains_without : (P : NumberedSector → Type 0) (es : List (Option Entry)) (p : ℕ) → All P (chains es) → All P (chains (set es p None))
+pub chains_without : (P : NumberedSector → Type 0) (es : List (Option Entry)) (p : ℕ) → AllByRecursion P (chains es) → AllByRecursion P (chains (set es p None))
 chains_without P es p h = chains_put P None (λ fs a. a) es p h
 
 -- a file's descriptor is among the chains' sectors
@@ -269,7 +269,7 @@ descriptor_alone (Some g ∷ es) (suc p) f a e =
     (descriptor_alone es p f (apart_back (chain g) (chains es) a) e)
 
 -- no chain uses a reserved sector
-pub none_reserved : (n s : ℕ) (ns : List ℕ) → n < reserved → All (λ m. (leb reserved m && ltb m s) ≡ true) ns → member n ns ≡ false
+pub none_reserved : (n s : ℕ) (ns : List ℕ) → n < reserved → AllByRecursion (λ m. (leb reserved m && ltb m s) ≡ true) ns → member n ns ≡ false
 none_reserved n s [] l h = refl
 none_reserved n s (m ∷ ns) l h =
     let a : reserved ≤ m = leb-true reserved m (and_parts (leb reserved m) (ltb m s) h.0).0 in

@@ -1,6 +1,6 @@
 -- The map saved: its three sectors written, the last first, are the layout with the map up to date.
 use Rattle.std.proofs.Common.{◌≡◌, ℕ, ◌+◌, ◌<◌, ◌≤◌, Bool, true, false, List, [], ◌∷◌, ◌++◌, length, get_or, set, sym, refl, ◌∙◌, subst, arith}
-use Rattle.std.specs.List.{AllByRecursion as All}
+use Rattle.std.specs.List.{AllByRecursion}
 use Rattle.std.proofs.lemmas.List.{get_or-set_same, get_or-set_other, length-set}
 use Rattle.device.specs.declared.sector.Sector.{Sector}
 use Rattle.device.specs.Device.{blank}
@@ -95,4 +95,4 @@ saved_laid_out d ss laid = laid_over (saved d) ss (with_map_saved d ss) (proper_
 pub saved_over : (d : Layout) (ss : Disk) → overwritten (fixed_sectors (saved d)) (overwritten (fixed_sectors d) ss) ≡ overwritten (fixed_sectors (saved d)) ss
 saved_over d ss =
     over_over (fixed_sectors (saved d)) (fixed_sectors d) ss
-    (subst (λ ns. All (λ n. member n ns ≡ true) (numbers (fixed_sectors d))) (numbers_fixed d ∙ sym (numbers_fixed (saved d))) (all_among (numbers (fixed_sectors d))))
+    (subst (λ ns. AllByRecursion (λ n. member n ns ≡ true) (numbers (fixed_sectors d))) (numbers_fixed d ∙ sym (numbers_fixed (saved d))) (all_among (numbers (fixed_sectors d))))

@@ -1,7 +1,7 @@
 -- A disk that shows a layout is surveyed to that layout.
 use Rattle.device.specs.declared.fault.Code.TheVariants.{BadLabel, PointerError}
 use Rattle.std.proofs.Common.{◌≡◌, ℕ, zero, suc, ◌+◌, ◌-◌, ◌<◌, true, ◌&&◌, eqb, ltb, leb, List, [], ◌∷◌, ◌++◌, map, length, get_or, drop, replicate, codes, Option, sym, refl, ap, ◌∙◌, subst, arith}
-use Rattle.std.specs.List.{AllByRecursion as All}
+use Rattle.std.specs.List.{AllByRecursion}
 use Rattle.std.proofs.lemmas.Bool.{and_parts, and_from, eq-eqb, cond-true}
 use Rattle.std.proofs.lemmas.List.{append_assoc}
 use Rattle.chains.specs.Names.{same, legal_id}
@@ -15,7 +15,7 @@ use Rattle.rules.proofs.Directory.{places_fit, place_shown, sector_whole, end_ze
 use Rattle.rules.proofs.Walks.{all_left, all_right}
 use Rattle.rules.proofs.Surveying.{places_read, line_stops, four, three}
 
-all_of_each : {X : Type 0} (P : X → Type 0) → ((x : X) → P x) → (xs : List X) → All P xs
+all_of_each : {X : Type 0} (P : X → Type 0) → ((x : X) → P x) → (xs : List X) → AllByRecursion P xs
 all_of_each P h [] = tt
 all_of_each P h (x ∷ xs) = (h x, all_of_each P h xs)
 
@@ -56,8 +56,8 @@ module _ (d : Layout) (ss : Disk) (p : ValidLayout d) (size : length ss ≡ d.si
   places_ok =
       let es = d.places in
       let fit = places_fit es p.names in
-      let use_able : All (λ n. usable ss n ≡ true) (addresses es) =
-      subst (λ s. All (λ n. (leb reserved n && ltb n s) ≡ true) (addresses es)) (sym size) (subst (All (λ n. (leb reserved n && ltb n d.size) ≡ true)) (numbers_chains es) p.usable) in
+      let use_able : AllByRecursion (λ n. usable ss n ≡ true) (addresses es) =
+      subst (λ s. AllByRecursion (λ n. (leb reserved n && ltb n s) ≡ true) (addresses es)) (sym size) (subst (AllByRecursion (λ n. (leb reserved n && ltb n d.size) ≡ true)) (numbers_chains es) p.usable) in
       ap (λ k. places_from ss k 0 [] []) (sym p.places) ∙
       places_read ss es 0 [] [] (λ i l. (let j : 0 + i ≡ i = omega arith in ap (place ss) j ∙ place_shown es ss fit p.places directory_there i (omega (arith, p.places)))) fit chains_there p.names p.distinct
       (all_of_each _ (λ f. tt) (entries es)) use_able (all_of_each _ (λ n. refl) (addresses es)) (subst DistinctNumbers (numbers_chains es) p.apart)

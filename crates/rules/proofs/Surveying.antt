@@ -1,7 +1,7 @@
 -- A disk that shows a layout is surveyed to that layout.
 use Rattle.device.specs.declared.fault.Code.TheVariants.{BadEntry, NotInDirectory, PointerError}
 use Rattle.std.proofs.Common.{◌≡◌, ℕ, suc, ◌+◌, ◌-◌, ◌*◌, ◌/◌, ◌%◌, ◌<◌, ◌≤◌, true, false, not, ◌&&◌, eqb, leb, List, [], ◌∷◌, ◌++◌, length, get_or, take, drop, replicate, Some, None, Option, sym, refl, ap, ◌∙◌, subst, arith}
-use Rattle.std.specs.List.{AllByRecursion as All}
+use Rattle.std.specs.List.{AllByRecursion}
 use Rattle.std.proofs.lemmas.Bool.{or_parts, or_from, and_parts, and_from, not_from_false, ne_eqb, eq-eqb, eqb-false, cond-true, cond-false, and_left, leb-true}
 use Rattle.std.proofs.lemmas.List.{append_assoc, take_at, drop_at, length-append, length-replicate, get_or-append_right}
 use Rattle.device.specs.declared.sector.Sector.{Sector}
@@ -17,7 +17,7 @@ use Rattle.rules.proofs.Directory.{Fits}
 use Rattle.rules.proofs.Walks.{all_left, all_right}
 use Rattle.rules.proofs.Counting.{all_both}
 
-pub each_differs : (n : ℕ) (xs : List ℕ) → member n xs ≡ false → All (λ m. eqb m n ≡ false) xs
+pub each_differs : (n : ℕ) (xs : List ℕ) → member n xs ≡ false → AllByRecursion (λ m. eqb m n ≡ false) xs
 each_differs n [] h = tt
 each_differs n (x ∷ xs) h =
     let parts = or_parts (eqb n x) (member n xs) h in
@@ -28,7 +28,7 @@ from_word x = omega arith
 
 module _ (ss : Disk) where
   walk_read : (visited : List ℕ) (here : ℕ) (ps : List Placed) → (sector_at ss here).forward ≡ first_of ps → Contains (linked here ps) ss →
-      All (λ n. usable ss n ≡ true) (ats ps) → All (λ n. member n visited ≡ false) (ats ps) → DistinctNumbers (ats ps) → walk ss visited here (length ps) ≡ read ps
+      AllByRecursion (λ n. usable ss n ≡ true) (ats ps) → AllByRecursion (λ n. member n visited ≡ false) (ats ps) → DistinctNumbers (ats ps) → walk ss visited here (length ps) ≡ read ps
   walk_read visited here [] e h u o a = cond-true (eqb (sector_at ss here).forward null) (read []) (fault (code_number PointerError) here) (ap (λ x. eqb x null) e)
   walk_read visited here (p ∷ ps) e h u o a =
       let K : ℕ → Found (List Placed) = λ next.
@@ -72,7 +72,7 @@ module _ (ss : Disk) where
     rest_zero = ap zeros (drop_at (padded 32 f.name) (replicate 88 0) 32 padded_long)
 
     module _ (visited : List ℕ) (names : List (List ℕ)) (from : ℕ) where
-      not_seen : (ns : List (List ℕ)) → All (λ m. same f.name m ≡ false) ns → among (place_name ss visited names from (place_bytes (Some f))) ns ≡ false
+      not_seen : (ns : List (List ℕ)) → AllByRecursion (λ m. same f.name m ≡ false) ns → among (place_name ss visited names from (place_bytes (Some f))) ns ≡ false
       not_seen [] h = refl
       not_seen (m ∷ ns) h =
           or_from (same (place_name ss visited names from (place_bytes (Some f))) m) (among (place_name ss visited names from (place_bytes (Some f))) ns) (ap (λ n. same n m) name_read ∙ h.0) (not_seen ns h.1)
@@ -82,8 +82,8 @@ module _ (ss : Disk) where
           ap (λ n. same (place_bytes (Some f)) (length f.name ∷ (padded 32 n ++ (word (place_at ss visited names from (place_bytes (Some f))) ++ replicate 5 0)))) name_read ∙
           (ap (λ a. same (place_bytes (Some f)) (length f.name ∷ (padded 32 f.name ++ (word a ++ replicate 5 0)))) at_read ∙ same_itself (place_bytes (Some f)))
 
-      file_read : Contains (chain f) ss → legal f.name ≡ true → All (λ m. same f.name m ≡ false) names → usable ss f.at ≡ true → member f.at visited ≡ false →
-          All (λ n. usable ss n ≡ true) (ats f.records) → All (λ n. member n visited ≡ false) (ats f.records) → DistinctNumbers (f.at ∷ ats f.records) →
+      file_read : Contains (chain f) ss → legal f.name ≡ true → AllByRecursion (λ m. same f.name m ≡ false) names → usable ss f.at ≡ true → member f.at visited ≡ false →
+          AllByRecursion (λ n. usable ss n ≡ true) (ats f.records) → AllByRecursion (λ n. member n visited ≡ false) (ats f.records) → DistinctNumbers (f.at ∷ ats f.records) →
           file_at ss visited names from (place_bytes (Some f)) ≡ read f
       file_read h lawful new able out uses outs a =
           let bs = place_bytes (Some f) in
@@ -118,10 +118,10 @@ module _ (ss : Disk) where
 
   -- ---- all places
 
-  apart_sides : (xs ys : List ℕ) → DistinctNumbers (xs ++ ys) → All (λ n. member n xs ≡ false) ys
+  apart_sides : (xs ys : List ℕ) → DistinctNumbers (xs ++ ys) → AllByRecursion (λ n. member n xs ≡ false) ys
   apart_sides [] ys a = nothing ys
     where
-      nothing : (ys : List ℕ) → All (λ n. false ≡ false) ys
+      nothing : (ys : List ℕ) → AllByRecursion (λ n. false ≡ false) ys
       nothing [] = tt
       nothing (y ∷ ys) = (refl, nothing ys)
   apart_sides (x ∷ xs) ys a =
@@ -141,9 +141,9 @@ module _ (ss : Disk) where
   apart_rest (x ∷ xs) ys h = apart_rest xs ys h.1
 
   pub places_read : (es : List (Option Entry)) (p : ℕ) (visited : List ℕ) (names : List (List ℕ)) →
-      ((i : ℕ) → i < length es → place ss (p + i) ≡ place_bytes (get_or es i None)) → All Fits es → Contains (chains es) ss →
-      All (λ f. legal f.name ≡ true) (entries es) → DistinctNames (entries es) → All (λ f. All (λ m. same f.name m ≡ false) names) (entries es) →
-      All (λ n. usable ss n ≡ true) (addresses es) → All (λ n. member n visited ≡ false) (addresses es) → DistinctNumbers (addresses es) →
+      ((i : ℕ) → i < length es → place ss (p + i) ≡ place_bytes (get_or es i None)) → AllByRecursion Fits es → Contains (chains es) ss →
+      AllByRecursion (λ f. legal f.name ≡ true) (entries es) → DistinctNames (entries es) → AllByRecursion (λ f. AllByRecursion (λ m. same f.name m ≡ false) names) (entries es) →
+      AllByRecursion (λ n. usable ss n ≡ true) (addresses es) → AllByRecursion (λ n. member n visited ≡ false) (addresses es) → DistinctNumbers (addresses es) →
       places_from ss (length es) p visited names ≡ read es
   places_read [] p visited names at fit h lawful apart new able out a = refl
   places_read (None ∷ es) p visited names at fit h lawful apart new able out a =
@@ -160,11 +160,11 @@ module _ (ss : Disk) where
       let file = file_read f fit.0.1 visited names (4 + p / 3) (all_left _ (chain f) (chains es) h) lawful.0 new.0 able.0 out.0
       (all_left _ us rest able.1) (all_left _ us rest out.1) (apart_left (f.at ∷ us) rest a) in
       let there : numbers (chain f) ≡ f.at ∷ us = ap (λ xs. f.at ∷ xs) (numbers_linked f.at f.records) in
-      let unmet : All (λ n. member n (numbers (chain f) ++ visited) ≡ false) rest =
-      subst (λ xs. All (λ n. member n (xs ++ visited) ≡ false) rest) (sym there)
+      let unmet : AllByRecursion (λ n. member n (numbers (chain f) ++ visited) ≡ false) rest =
+      subst (λ xs. AllByRecursion (λ n. member n (xs ++ visited) ≡ false) rest) (sym there)
       (all_both (λ n. member n (f.at ∷ us) ≡ false) (λ n. member n visited ≡ false) (λ n. member n ((f.at ∷ us) ++ visited) ≡ false) (λ n x y. member_join n (f.at ∷ us) visited x y) rest (apart_sides (f.at ∷ us) rest a) (all_right _ us rest out.1)) in
-      let names_new : All (λ g. All (λ m. same g.name m ≡ false) (f.name ∷ names)) (entries es) =
-      all_both (λ g. same f.name g.name ≡ false) (λ g. All (λ m. same g.name m ≡ false) names) (λ g. All (λ m. same g.name m ≡ false) (f.name ∷ names))
+      let names_new : AllByRecursion (λ g. AllByRecursion (λ m. same g.name m ≡ false) (f.name ∷ names)) (entries es) =
+      all_both (λ g. same f.name g.name ≡ false) (λ g. AllByRecursion (λ m. same g.name m ≡ false) names) (λ g. AllByRecursion (λ m. same g.name m ≡ false) (f.name ∷ names))
       (λ g x y. (same_turned g.name f.name ∙ x, y)) (entries es) (none_named f.name (entries es) apart.0) new.1 in
       let ih = places_read es (p + 1) (numbers (chain f) ++ visited) (f.name ∷ names) (λ i l. (let j : p + 1 + i ≡ p + suc i = omega arith in ap (place ss) j ∙ at (suc i) (omega arith)))
       fit.1 (all_right _ (chain f) (chains es) h) lawful.1 apart.1 names_new (all_right _ us rest able.1) unmet (apart_rest (f.at ∷ us) rest a) in

@@ -1,7 +1,7 @@
 -- A walk that is accepted shows its records.
 use Rattle.device.specs.declared.fault.Code.TheVariants.{PointerError}
 use Rattle.std.proofs.Common.{◌≡◌, ℕ, zero, suc, true, false, not, ◌&&◌, eqb, List, [], ◌∷◌, length, refl, ap, subst}
-use Rattle.std.specs.List.{AllByRecursion as All}
+use Rattle.std.specs.List.{AllByRecursion}
 use Rattle.std.proofs.lemmas.Bool.{and_parts, eqb-true, not-true}
 use Rattle.device.specs.Device.{WellFormed}
 use Rattle.chains.specs.Layout.{Disk, Placed, Contains, null, member, linked, numbers, first_of}
@@ -13,12 +13,12 @@ pub record WalkShown (ss : Disk) (visited : List ℕ) (here k : ℕ) (ps : List 
   pub count : length ps ≡ k
   pub first : (sector_at ss here).forward ≡ first_of ps
   pub shows : Contains (linked here ps) ss
-  pub within : All (λ n. usable ss n ≡ true) (numbers (linked here ps))
+  pub within : AllByRecursion (λ n. usable ss n ≡ true) (numbers (linked here ps))
   pub apart : DistinctNumbers (numbers (linked here ps))
-  pub fresh : All (λ n. member n visited ≡ false) (numbers (linked here ps))
-  pub full : All (λ p. length p.bytes ≡ 128) ps
+  pub fresh : AllByRecursion (λ n. member n visited ≡ false) (numbers (linked here ps))
+  pub full : AllByRecursion (λ p. length p.bytes ≡ 128) ps
 
-module _ (ss : Disk) (w : All WellFormed ss) where
+module _ (ss : Disk) (w : AllByRecursion WellFormed ss) where
   one_more : (visited : List ℕ) (here next k : ℕ) (ps : List Placed) → (sector_at ss here).forward ≡ next → (usable ss next && not (member next visited)) ≡ true → (sector_at ss next).back ≡ here →
       WalkShown ss (next ∷ visited) next k ps → WalkShown ss visited here (suc k) (record { at = next; bytes = (sector_at ss next).bytes } ∷ ps)
   one_more visited here next k ps f u b h =

@@ -1,7 +1,7 @@
 -- When a model and the layout of a disk hold the same files, and that every call that is not refused keeps them so.
 use Rattle.std.specs.Prelude.{◌≡◌, ℕ, ◌≤◌, Bool, true, false, ◌&&◌, List, [], ◌∷◌, length, is_some, nat_le, nat_lt}
 use Rattle.std.specs.Option.{unwrap_or}
-use Rattle.std.specs.List.{AllByRecursion as All}
+use Rattle.std.specs.List.{AllByRecursion}
 use Rattle.chains.specs.Layout.{Layout, reserved, member, numbers, chains, allocated, map_bytes}
 use Rattle.chains.specs.Sound.{DistinctNumbers, ValidLayout}
 use Rattle.rules.specs.Model.{Model, File, UnitState, closed, holds, Supplied, Request, response, new_model, has_name, state, find, free_count, some_open}
@@ -23,8 +23,8 @@ pub record Matches (b : Model) (d : Layout) : Type 0 where
 -- sectors of the disk that no chain uses, each once
 pub record Unused (d : Layout) (ns : List ℕ) : Type 0 where
   pub distinct : DistinctNumbers ns
-  pub usable : All (λ n. (nat_le reserved n && nat_lt n d.size) ≡ true) ns
-  pub outside : All (λ n. member n (numbers (chains d.places)) ≡ false) ns
+  pub usable : AllByRecursion (λ n. (nat_le reserved n && nat_lt n d.size) ≡ true) ns
+  pub outside : AllByRecursion (λ n. member n (numbers (chains d.places)) ≡ false) ns
 
 -- what a call that is not refused leaves, where it took as many unused sectors as it says
 abbrev pub StaysMatched : Type 0

@@ -1,6 +1,6 @@
 -- What holds over any list of calls: the answers are the model's, and the disk agrees with the model after each.
 use Rattle.std.specs.Prelude.{◌≡◌, ℕ, zero, suc, ◌+◌, Bool, true, false, cond, not, ◌&&◌, ◌||◌, List, [], ◌∷◌, ◌++◌, map, reverse, length, take, drop, replicate, is_some, Some, None, Option, ◌==◌, ◌≢◌, nat_le, nat_lt, slice_index}
-use Rattle.std.specs.List.{AllByRecursion as All}
+use Rattle.std.specs.List.{AllByRecursion}
 use Rattle.freespace.specs.Sets.{counted}
 use Rattle.device.specs.Codes.{code_number, layer_number}
 use Rattle.device.specs.Device.{Medium}
@@ -68,8 +68,8 @@ pub record Agrees (b : Model) (ss : Disk) (free : ℕ → Bool) : Type 0 where
   pub each_once : EachOnce (directory_of ss)
   pub as_many : length (directory_of ss) ≡ length b.files
   -- each chain read forward gives its file's records, and read backward their reverse
-  pub forward : All (λ e. find e.name b.files ≡ Some (contents ss (chain_forward ss e.at))) (directory_of ss)
-  pub backward : All (λ e. contents ss (chain_backward ss e.at) ≡ reverse (contents ss (chain_forward ss e.at))) (directory_of ss)
+  pub forward : AllByRecursion (λ e. find e.name b.files ≡ Some (contents ss (chain_forward ss e.at))) (directory_of ss)
+  pub backward : AllByRecursion (λ e. contents ss (chain_backward ss e.at) ≡ reverse (contents ss (chain_forward ss e.at))) (directory_of ss)
   -- no sector lies in two chains, and the free sectors are those past the reserved ones and outside every chain
   pub apart : DistinctNumbers (chain_sectors ss (directory_of ss))
   pub unused : (n : ℕ) → free n ≡ (nat_le reserved n && (nat_lt n (length ss) && not (member n (chain_sectors ss (directory_of ss)))))
@@ -107,7 +107,7 @@ supplied_by ss = record { reading = as_reading (reading ss) }
 
 -- sectors taken from free space, each once
 pub record Taken (free : ℕ → Bool) (ns : List ℕ) : Type 0 where
-  pub were_free : All (λ n. free n ≡ true) ns
+  pub were_free : AllByRecursion (λ n. free n ≡ true) ns
   pub distinct : DistinctNumbers ns
 
 -- a call and the buffer that it finds

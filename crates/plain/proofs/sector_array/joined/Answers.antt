@@ -1,5 +1,5 @@
 use Rattle.std.proofs.Common.{ℕ, ◌^◌, ◌<◌, List, length, sym, ap, ◌∙◌, subst, arith}
-use Rattle.std.specs.List.{AllByRecursion as All}
+use Rattle.std.specs.List.{AllByRecursion}
 use Rattle.std.proofs.ByRecursion.{All-from_get_or}
 use Rattle.plain.proofs.sector_array.joined.Goals as goal
 
@@ -12,7 +12,7 @@ returns c =
       whole =
           record {
             count = ap length is ∙ c.requires;
-            bytes = subst (λ (ys : List ℕ). All (λ b. b < 2 ^ 8) ys) (sym is) (All-from_get_or (λ b. b < 2 ^ 8) xs 0 (λ i h. (c.type_inv.bytes i).fits));
+            bytes = subst (λ (ys : List ℕ). AllByRecursion (λ b. b < 2 ^ 8) ys) (sym is) (All-from_get_or (λ b. b < 2 ^ 8) xs 0 (λ i h. (c.type_inv.bytes i).fits));
             back = omega arith;
             forward = omega arith;
           };
