@@ -6,7 +6,8 @@ usage: python3 tools/respell.py [FOLDER]      once, in a checkout that the toolc
 Facts (what answers a Type) and records get upper camel case, everything else snake case: `Well-formed` becomes `WellFormed`,
 `code-number` becomes `code_number`. Only names that this repository defines are touched, in the files of specs/ and proofs/,
 in the clauses of src/ and between backquotes in docs/ and the README. Functions of src/, strings, inputs, outputs, the names of
-goals and the library's own names stay. It stops where two names would fall together.
+goals and the library's own names stay. It stops where two names would fall together. The porting script brings a list's `All`
+in as `AllByRecursion as All`, a name of the library for something else, which the gate refuses: it gets its own name here.
 """
 
 import os
@@ -111,6 +112,15 @@ def in_quotes(text, names, pattern):
     return re.sub(r"`[^`\n]*`", lambda m: turn(m.group(0), names, pattern), text)
 
 
+def by_own_name(text):
+    """`All` of lists, brought in as `AllByRecursion as All`, under its own name."""
+    if "AllByRecursion as All" not in text:
+        return text
+    text = text.replace("AllByRecursion as All", "AllByRecursion")
+    notes = ("--", "//")
+    return "\n".join(line if line.lstrip().startswith(notes) else re.sub(r"(?<![\w'\-.])All(?![\w'\-])", "AllByRecursion", line) for line in text.split("\n"))
+
+
 def in_source(text, names, pattern):
     lines = []
     for line in text.split("\n"):
@@ -138,7 +148,7 @@ def main(argv):
     for path in [*files(root, ".antt", ".rt"), *docs, os.path.join(root, "README.md")]:
         before = read(path)
         how = in_antt if path.endswith(".antt") else in_source if path.endswith(".rt") else in_quotes
-        after = how(before, names, pattern)
+        after = by_own_name(how(before, names, pattern))
         if after != before:
             changed += 1
             with open(path, "w", encoding="utf-8") as f:
