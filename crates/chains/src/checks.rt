@@ -1,6 +1,6 @@
 // Whether the reserved sectors of a disk hold what they must: label, directory and map.
 ghost use Rattle.std.specs.Prelude.{◌≡◌, length, Ok};
-ghost use Rattle.device.specs.declared.fault.Code.TheVariants.{BadLabel as bad-label};
+ghost use Rattle.device.specs.declared.fault.Code.TheVariants.{BadLabel as bad_label};
 ghost use Rattle.freespace.specs.Bits.{bit_of};
 ghost use Rattle.chains.specs.Reading.{sector_at};
 ghost use Rattle.chains.specs.Survey.{directory_on, exact_label, map_on, need, to_be_marked};
@@ -33,7 +33,7 @@ impl Marks for MetMarks<'_> {
 pub(crate) fn check_label<D: ReadingDevice>(device: &mut D, size: u16) -> Result<(), Fault>
     requires ready { Readable (D.ReadingDevice.medium device.old) }
     requires sized { size ≡ length (D.ReadingDevice.medium device.old).sectors }
-    ensures value { result ≡ need (exact_label (sector_at (D.ReadingDevice.medium device.old).sectors 0).bytes size) bad-label 0 (Ok tt) }
+    ensures value { result ≡ need (exact_label (sector_at (D.ReadingDevice.medium device.old).sectors 0).bytes size) bad_label 0 (Ok tt) }
     ensures same { D.ReadingDevice.medium device.new ≡ D.ReadingDevice.medium device.old }
 {
     let sector = fetch(device, 0)?;

@@ -1,6 +1,6 @@
 // Reading a whole disk: the first fault in a fixed order, or how many files there are and which sectors they use.
 ghost use Rattle.std.specs.Prelude.{◌≡◌, ℕ, ◌+◌, ◌*◌, ◌<◌, ◌≤◌, not, ◌&&◌, length, if◌then◌else◌, Ok, Err, nat_le, nat_lt};
-ghost use Rattle.device.specs.declared.fault.Code.TheVariants.{NotReady as not-ready};
+ghost use Rattle.device.specs.declared.fault.Code.TheVariants.{NotReady as not_ready};
 ghost use Rattle.device.specs.Device.{WellFormed, device_fault};
 ghost use Rattle.freespace.specs.Bits.{bit_of};
 ghost use Rattle.chains.specs.Layout.{reserved};
@@ -153,7 +153,7 @@ fn survey_disk<D: ReadingDevice>(device: &mut D, size: u16, scan: &mut Scan) -> 
 // Gives the device's own fault where its door is open.
 fn refuse_open_door<D: ReadingDevice>(device: &mut D) -> Result<(), Fault>
     requires { 0 < length (D.ReadingDevice.medium device.old).sectors }
-    ensures value { result ≡ (if (D.ReadingDevice.medium device.old).door then Err (device_fault not-ready) else Ok tt) }
+    ensures value { result ≡ (if (D.ReadingDevice.medium device.old).door then Err (device_fault not_ready) else Ok tt) }
     ensures same { D.ReadingDevice.medium device.new ≡ D.ReadingDevice.medium device.old }
 {
     device.read(0)?;

@@ -1,7 +1,6 @@
 ghost use Rattle.std.specs.Prelude.{◌≡◌, ℕ, ◌<◌, ◌≤◌, true, false, length, if◌then◌else◌, nat_eq};
 ghost use Rattle.freespace.specs.Bits.{bit_of};
 ghost use Rattle.freespace.specs.Sets.{counted};
-ghost use Rattle.std.proofs.Common.{rules, arith};
 
 use crate::allocator::SectorAllocator;
 use crate::bits::{bit, no_bytes, with_bit, without_bit};
@@ -82,9 +81,9 @@ impl SectorAllocator for BitMap {
 
     ghost span = { λ k. k.sectors };
 
-    ghost below = { first_of (Prim.search rules, Prim.grind (arith, Self.row.coded.inj)) };
+    ghost below = { λ k. k.below };
 
-    ghost small = { first_of (Prim.search rules, Prim.grind (arith, Self.row.coded.inj)) };
+    ghost small = { λ k. k.small };
 
     fn clear(&mut self, sectors: u16) -> bool {
         if sectors > 2464 {

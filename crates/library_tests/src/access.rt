@@ -1,6 +1,14 @@
-// Sectors read and written where a test expects no refusal.
+// What tests expect: that a fact holds, and that sectors are read and written with no refusal.
 use device::{ReadingDevice, Sector, WritingDevice};
 use std::test::Fail;
+
+pub(crate) fn expect(holds: bool, otherwise: &str) -> Result<(), Fail> {
+    if holds {
+        Ok(())
+    } else {
+        Err(Fail::new(otherwise))
+    }
+}
 
 pub(crate) fn read_sector<D: ReadingDevice>(device: &mut D, n: u16) -> Result<Sector, Fail> {
     match device.read(n) {

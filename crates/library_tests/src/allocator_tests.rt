@@ -1,9 +1,9 @@
 // Free lists, and a device and an allocator of another crate.
+use crate::access::expect;
 use device::{FlatImage, ReadingDevice, Sector, WritingDevice};
 use drive::{Drive, Usage};
 use freespace::{FreeList, SectorAllocator, fill_from};
 use plain::{NumberList, SectorArray};
-use std::process::Abort;
 use std::test::Fail;
 
 // What STATUS tells after FORMAT, on any device and with any allocator.
@@ -18,17 +18,16 @@ fn usage_when_new<D: WritingDevice + Drop, A: SectorAllocator + Drop>(
     usage
 }
 
-fn check_new(rt: &impl Abort, usage: Usage) {
-    assert_eq!(rt; usage.free, 28);
-    assert_eq!(rt; usage.used, 36);
-    assert_eq!(rt; usage.files, 0);
+fn check_new(usage: Usage) -> Result<(), Fail> {
+    expect(usage.free == 28, "another number is free")?;
+    expect(usage.used == 36, "another number is used")?;
+    expect(usage.files == 0, "there are files")
 }
 
 #[test]
 fn serves_a_flat_image_with_a_free_list(rt: HostRuntime) -> Result<(), Fail> {
     let bytes = vec![in rt.alloc(); 0; 132 * 64]?;
-    check_new(&rt, usage_when_new(FlatImage::new(bytes), FreeList::new()));
-    Ok(())
+    check_new(usage_when_new(FlatImage::new(bytes), FreeList::new()))
 }
 
 #[test]
@@ -40,8 +39,7 @@ fn serves_a_sector_array_with_a_number_list(rt: HostRuntime) -> Result<(), Fail>
     };
     let sectors = vec![in rt.alloc(); blank; 64]?;
     let allocator = NumberList::new(rt.alloc())?;
-    check_new(&rt, usage_when_new(SectorArray::new(sectors), allocator));
-    Ok(())
+    check_new(usage_when_new(SectorArray::new(sectors), allocator))
 }
 
 #[test]

@@ -1,9 +1,9 @@
 // Disks read: examined, initialised and reopened.
+use crate::access::expect;
 use device::{Code, FlatImage, WritingDevice};
 use drive::{Answer, Drive, examine, reopen};
 use freespace::{BitMap, FreeList};
 use std::alloc::Global;
-use std::process::Abort;
 use std::test::Fail;
 
 fn empty_image(heap: Global, sectors: u8) -> Result<FlatImage, Fail> {
@@ -11,37 +11,39 @@ fn empty_image(heap: Global, sectors: u8) -> Result<FlatImage, Fail> {
     Ok(FlatImage::new(bytes))
 }
 
-fn formatted_image(rt: &impl Abort, heap: Global) -> Result<FlatImage, Fail> {
+fn formatted_image(heap: Global) -> Result<FlatImage, Fail> {
     let mut drive = Drive::new(empty_image(heap, 64)?, BitMap::new());
     let answer = drive.format(b"EXAM 1");
     let image = drive.release();
-    assert_eq!(rt; answer.code.number(), Code::Done.number());
+    expect(
+        answer.code.number() == Code::Done.number(),
+        "FORMAT is refused",
+    )?;
     Ok(image)
 }
 
-fn check_answer(rt: &impl Abort, answer: Answer, code: u8, layer: u8, sector: u16) {
-    assert_eq!(rt; answer.code.number(), code);
-    assert_eq!(rt; answer.length, 0);
-    assert_eq!(rt; answer.layer.number(), layer);
-    assert_eq!(rt; answer.sector, sector);
+fn check_answer(answer: Answer, code: u8, layer: u8, sector: u16) -> Result<(), Fail> {
+    expect(answer.code.number() == code, "another code")?;
+    expect(answer.length == 0, "a length")?;
+    expect(answer.layer.number() == layer, "another layer")?;
+    expect(answer.sector == sector, "another sector")
 }
 
 #[test]
 fn a_formatted_disk_is_sound(rt: HostRuntime) -> Result<(), Fail> {
-    let image = formatted_image(&rt, rt.alloc())?;
+    let image = formatted_image(rt.alloc())?;
     let answer = examine(&mut image.reader());
-    check_answer(&rt, answer, 0x80, 0, 0xFFFF);
-    Ok(())
+    check_answer(answer, 0x80, 0, 0xFFFF)
 }
 
 #[test]
 fn a_new_drive_finds_what_was_formatted(rt: HostRuntime) -> Result<(), Fail> {
-    let mut image = formatted_image(&rt, rt.alloc())?;
+    let mut image = formatted_image(rt.alloc())?;
     image.set_tab(true);
     let (drive, answer) = reopen(image, FreeList::new());
     let (_, usage) = drive.status();
     let _ = drive.release();
-    check_answer(&rt, answer, 0x80, 0, 0xFFFF);
+    check_answer(answer, 0x80, 0, 0xFFFF)?;
     assert_eq!(rt; usage.free, 28);
     assert_eq!(rt; usage.used, 36);
     assert_eq!(rt; usage.files, 0);
@@ -53,16 +55,14 @@ fn a_disk_without_a_label_is_turned_away(rt: HostRuntime) -> Result<(), Fail> {
     let (drive, answer) = reopen(empty_image(rt.alloc(), 64)?, BitMap::new());
     let (status, _) = drive.status();
     let _ = drive.release();
-    check_answer(&rt, answer, 0xE1, 3, 0);
-    check_answer(&rt, status, 0xE0, 4, 0xFFFF);
-    Ok(())
+    check_answer(answer, 0xE1, 3, 0)?;
+    check_answer(status, 0xE0, 4, 0xFFFF)
 }
 
 #[test]
 fn the_door_counts_before_the_size(rt: HostRuntime) -> Result<(), Fail> {
     let mut image = empty_image(rt.alloc(), 63)?;
-    check_answer(&rt, examine(&mut image), 0xE5, 4, 0xFFFF);
+    check_answer(examine(&mut image), 0xE5, 4, 0xFFFF)?;
     image.set_door(true);
-    check_answer(&rt, examine(&mut image), 0xC2, 1, 0xFFFF);
-    Ok(())
+    check_answer(examine(&mut image), 0xC2, 1, 0xFFFF)
 }

@@ -1,10 +1,9 @@
 // Sectors that lie skewed.
-use crate::access::{read_sector, write_sector};
+use crate::access::{expect, read_sector, write_sector};
 use device::{FlatImage, ReadingDevice, Sector, Skewed, place};
 use drive::Drive;
 use freespace::{BitMap, SectorAllocator};
 use std::alloc::Global;
-use std::process::Abort;
 use std::test::Fail;
 
 fn blank(heap: Global, sectors: u16) -> Result<Skewed<FlatImage>, Fail> {
@@ -25,48 +24,48 @@ fn number_sectors(device: &mut Skewed<FlatImage>, sectors: u16) -> Result<(), Fa
     Ok(())
 }
 
-fn check_read_back(
-    rt: &impl Abort,
-    device: &mut Skewed<FlatImage>,
-    sectors: u16,
-) -> Result<(), Fail> {
+fn check_read_back(device: &mut Skewed<FlatImage>, sectors: u16) -> Result<(), Fail> {
     for n in 0..sectors {
         let sector = read_sector(device, n)?;
-        assert!(rt; sector.bytes == [(n % 256) as u8; 128]);
-        assert_eq!(rt; sector.back, n);
+        expect(
+            sector.bytes == [(n % 256) as u8; 128],
+            "other bytes are read",
+        )?;
+        expect(sector.back == n, "another back link is read")?;
     }
     Ok(())
 }
 
-fn check_below(rt: &impl Abort, image: &mut FlatImage, sectors: u16) -> Result<(), Fail> {
+fn check_below(image: &mut FlatImage, sectors: u16) -> Result<(), Fail> {
     for n in 0..sectors {
-        assert_eq!(rt; read_sector(image, place(sectors, n))?.back, n);
+        let below = read_sector(image, place(sectors, n))?;
+        expect(below.back == n, "a sector lies elsewhere")?;
     }
     Ok(())
 }
 
-fn check_size(rt: &impl Abort, heap: Global, sectors: u16) -> Result<(), Fail> {
+fn check_size(heap: Global, sectors: u16) -> Result<(), Fail> {
     let mut device = blank(heap, sectors)?;
-    assert_eq!(rt; device.count(), sectors);
+    expect(device.count() == sectors, "another count")?;
     number_sectors(&mut device, sectors)?;
-    check_read_back(rt, &mut device, sectors)?;
+    check_read_back(&mut device, sectors)?;
     match device.read(sectors) {
         Ok(_) => return Err(Fail::new("a sector past the end is read")),
-        Err(fault) => assert_eq!(rt; fault.code.number(), 0xC1),
+        Err(fault) => expect(fault.code.number() == 0xC1, "another fault")?,
     }
-    check_below(rt, &mut device.into_lower(), sectors)
+    check_below(&mut device.into_lower(), sectors)
 }
 
 #[test]
 fn reads_back_what_it_wrote_at_every_size(rt: HostRuntime) -> Result<(), Fail> {
     let heap = rt.alloc();
-    check_size(&rt, heap, 0)?;
-    check_size(&rt, heap, 1)?;
-    check_size(&rt, heap, 31)?;
-    check_size(&rt, heap, 32)?;
-    check_size(&rt, heap, 33)?;
-    check_size(&rt, heap, 63)?;
-    check_size(&rt, heap, 64)
+    check_size(heap, 0)?;
+    check_size(heap, 1)?;
+    check_size(heap, 31)?;
+    check_size(heap, 32)?;
+    check_size(heap, 33)?;
+    check_size(heap, 63)?;
+    check_size(heap, 64)
 }
 
 #[test]

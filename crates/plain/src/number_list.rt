@@ -2,7 +2,6 @@
 ghost use Rattle.std.specs.Prelude.{◌≡◌, ℕ, ◌<◌, ◌≤◌, true, false, [], IfOk, if◌then◌else◌, vec_len, vec_capacity, nat_eq};
 ghost use Rattle.freespace.specs.Sets.{counted};
 ghost use Rattle.plain.specs.Members.{listed};
-ghost use Rattle.std.proofs.Common.{rules, arith};
 
 use freespace::SectorAllocator;
 use std::alloc::{AllocError, Global};
@@ -70,9 +69,9 @@ impl SectorAllocator for NumberList {
 
     ghost span = { λ k. k.sectors };
 
-    ghost below = { first_of (Prim.search rules, Prim.grind (arith, Self.row.coded.inj)) };
+    ghost below = { λ k. k.below };
 
-    ghost small = { first_of (Prim.search rules, Prim.grind (arith, Self.row.coded.inj)) };
+    ghost small = { λ k. k.small };
 
     fn clear(&mut self, sectors: u16) -> bool {
         if sectors > 2464 {

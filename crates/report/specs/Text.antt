@@ -26,7 +26,7 @@ format_text id = codes "FORMAT ID=" ++ map shown_byte id
 abbrev pub request_text : Request → List ℕ
 request_text (Format id) = format_text (vec_items id)
 request_text (Door is_open) = cond is_open (codes "DOOR OPEN") (codes "DOOR CLOSED")
-request_text (Tab is-on) = cond is-on (codes "TAB ON") (codes "TAB OFF")
+request_text (Tab is_on) = cond is_on (codes "TAB ON") (codes "TAB OFF")
 request_text Status = codes "STATUS"
 
 abbrev pub usage_text : Usage → List ℕ

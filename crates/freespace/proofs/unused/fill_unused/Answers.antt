@@ -1,7 +1,7 @@
 use Rattle.std.proofs.Common.{◌≡◌, ℕ, ◌≤◌, min, Bool, not, ◌&&◌, ltb, leb, ◌∙◌, arith, rules}
 use Rattle.std.proofs.lemmas.Bool.Decides.{nat_tests}
 use Rattle.freespace.specs.Bits.{bit_of}
-use Rattle.freespace.proofs.fill.fill_unused.Goals as goal
+use Rattle.freespace.proofs.unused.fill_unused.Goals as goal
 
 -- where the loop ends, n is `first`, or nothing was given
 ended : (n first s m : ℕ) (u : Bool) → n ≤ first → min first s ≤ n → (leb n m && (ltb m s && not u)) ≡ (leb first m && (ltb m s && not u))

@@ -1,6 +1,6 @@
 use Rattle.std.proofs.Common.{◌≡◌, ℕ, ◌≤◌, min, not, ◌&&◌, ltb, leb}
 use Rattle.freespace.specs.Bits.{bit_of}
-use Rattle.freespace.proofs.fill.fill_unused.Given as goal
+use Rattle.freespace.proofs.unused.fill_unused.Given as goal
 
 -- the members are the unused numbers from n on, and n does not go below `first`
 abbrev pub invariant-loop-n : goal.invariant-loop-n
