@@ -16,6 +16,8 @@ import sys
 
 WORD = r"[^\s(){}\[\].,;:@\"`]+"
 HEAD = re.compile(r"^\s*(?:let )?((?:(?:abbrev|unfoldable|pub|record|data|ruleset|instance|private|opaque) )*)(" + WORD + r")((?:\s*\([^()]*(?:\([^()]*\)[^()]*)*\)|\s*\{[^{}]*\})*)\s*:(?!=)(.*)$")
+# names that are bound in a lemma or a clause, which no head shows
+BOUND = "after-directory after-label after-places at-descriptor at-record chains-reading door-is e-is fault-is in-a is-a is-legal is-on is-refusal k-is k-read no-reading on-new on-old open-with same-directory same-disk same-label same-medium same-places tab-is tab-on whole-xs whole-ys zero-r all-four".split()
 GOAL = re.compile(r"^\s*(?:goal|given|goals)\.|\.Goals|\.Given")
 FUNCTION_FILES = ("Answers.antt", "Invariants.antt", "Choices.antt", "Proof.antt")
 
@@ -61,7 +63,8 @@ def collect(root):
                 continue
             if "◌" in name or not re.match(r"[^\W\d]", name):
                 continue
-            to = name.replace("′", "'")
+            # `getD` is `get_or` now
+            to = name.replace("′", "'").replace("getD", "get_or")
             if is_fact(head, rest):
                 to = camel(to)
             elif "-" in to:
@@ -72,6 +75,8 @@ def collect(root):
                 new.setdefault(name, set()).add(to)
             else:
                 taken.setdefault(name, path)
+    for name in BOUND:
+        new.setdefault(name, set()).add(name.replace("-", "_"))
     for name in sorted(new):
         if name in imported:
             print(f"left: {name}: the library has this name too")

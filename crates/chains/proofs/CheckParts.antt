@@ -13,7 +13,7 @@ pub fetched_same : (a b : Sector) → ◌≡◌ {A = Result Sector Fault} (Ok a)
 fetched_same a b e = cc
 
 -- sector i of n was fetched as s, and what is left gives the whole
-module _ (ss now : Disk) (same-disk : now ≡ ss) (n i : ℕ) (w : Result Unit Fault) where
+module _ (ss now : Disk) (same_disk : now ≡ ss) (n i : ℕ) (w : Result Unit Fault) where
   module _ (below : i < n) (s : Sector) where
     one_left : n - i ≡ suc (n - (i + 1))
     one_left = omega arith
@@ -21,7 +21,7 @@ module _ (ss now : Disk) (same-disk : now ≡ ss) (n i : ℕ) (w : Result Unit F
     pub directory_more : (b : Bool) → ◌≡◌ {A = Result Sector Fault} (Ok s) (Ok (sector_at now (4 + i))) → b ≡ directory_framed i s → directory_on ss (n - i) i ≡ w → need b PointerError (4 + i) (directory_on ss (n - (i + 1)) (i + 1)) ≡ w
     unfolding directory_on
     directory_more b got e rest =
-        let here : s ≡ sector_at ss (4 + i) = fetched_same s (sector_at now (4 + i)) got ∙ ap (λ (d : Disk). sector_at d (4 + i)) same-disk in
+        let here : s ≡ sector_at ss (4 + i) = fetched_same s (sector_at now (4 + i)) got ∙ ap (λ (d : Disk). sector_at d (4 + i)) same_disk in
         ap (λ (x : Bool). need x PointerError (4 + i) (directory_on ss (n - (i + 1)) (i + 1))) (e ∙ ap (λ (x : Sector). directory_framed i x) here)
         ∙ ap (λ (k : ℕ). directory_on ss k i) (sym one_left)
         ∙ rest
@@ -29,7 +29,7 @@ module _ (ss now : Disk) (same-disk : now ≡ ss) (n i : ℕ) (w : Result Unit F
     pub map_more : (m : ℕ → Bool) (bytes : List ℕ) (b : Bool) → ◌≡◌ {A = Result Sector Fault} (Ok s) (Ok (sector_at now (1 + i))) → bytes ≡ map_sector_bytes m i → b ≡ same s.bytes bytes → map_on ss m (n - i) i ≡ w → need b MapWrong (1 + i) (map_on ss m (n - (i + 1)) (i + 1)) ≡ w
     unfolding map_on
     map_more m bytes b got made e rest =
-        let here : s ≡ sector_at ss (1 + i) = fetched_same s (sector_at now (1 + i)) got ∙ ap (λ (d : Disk). sector_at d (1 + i)) same-disk in
+        let here : s ≡ sector_at ss (1 + i) = fetched_same s (sector_at now (1 + i)) got ∙ ap (λ (d : Disk). sector_at d (1 + i)) same_disk in
         ap (λ (x : Bool). need x MapWrong (1 + i) (map_on ss m (n - (i + 1)) (i + 1)))
         (e ∙ ap (λ (xs : List ℕ). same s.bytes xs) made ∙ ap (λ (x : Sector). same x.bytes (map_sector_bytes m i)) here)
         ∙ ap (λ (k : ℕ). map_on ss m k i) (sym one_left)

@@ -66,18 +66,18 @@ module _ (m : Medium) (size : ℕ) (counts : size ≡ length m.sectors) where
   module _ (fits : true ≡ sized size) (r : Result Unit Fault) (value : r ≡ cond m.door (Err (device_fault NotReady)) (Ok tt)) where
     pub refuses_door : (f d : Fault) (x : Result Survey Fault) → r ≡ Err f → x ≡ Err d → d ≡ f → DiskRead m x
     refuses_door f d x fails passed e =
-        let open-with = err_only_open m.door f (sym fails ∙ value) in
+        let open_with = err_only_open m.door f (sym fails ∙ value) in
         record {
           unfit = λ s. true_is_not_false (sym (size_is fits) ∙ s);
-          open_door = λ _ _. passed ∙ ap (λ (z : Fault). Err z) (e ∙ open-with.1);
-          found = λ _ closed. true_is_not_false (sym open-with.0 ∙ closed);
+          open_door = λ _ _. passed ∙ ap (λ (z : Fault). Err z) (e ∙ open_with.1);
+          found = λ _ closed. true_is_not_false (sym open_with.0 ∙ closed);
         }
 
     pub reads_on : r ≡ Ok tt → (after : Medium) → after ≡ m → (x : Result Survey Fault) → Told after.sectors x → DiskRead m x
     unfolding Told
-    reads_on fine after same-medium x told =
+    reads_on fine after same_medium x told =
         record {
           unfit = λ s. true_is_not_false (sym (size_is fits) ∙ s);
           open_door = λ _ opened. true_is_not_false (sym opened ∙ ok_only_closed m.door (sym fine ∙ value));
-          found = λ _ _. subst (λ (y : Medium). Tells Shows (reading y.sectors) x) same-medium told;
+          found = λ _ _. subst (λ (y : Medium). Tells Shows (reading y.sectors) x) same_medium told;
         }

@@ -59,10 +59,10 @@ module _ (ss : Disk) where
 
   -- directory sector i of n, three places each
   pub sector_left : (now : Disk) → now ≡ ss → (n i : ℕ) (s : Seen) → i < n → next (places_on now 3 (3 * i) s) (λ t. places_on ss (3 * n - 3 * (i + 1)) (3 * (i + 1)) t) ≡ places_on ss (3 * n - 3 * i) (3 * i) s
-  sector_left now same-disk n i s below =
+  sector_left now same_disk n i s below =
       let split : 3 + (3 * n - 3 * (i + 1)) ≡ 3 * n - 3 * i = omega arith in
       let on : 3 * (i + 1) ≡ 3 * i + 3 = omega arith in
-      (λ k. next (places_on (same-disk k) 3 (3 * i) s) (λ t. places_on ss (3 * n - 3 * (i + 1)) (on k) t))
+      (λ k. next (places_on (same_disk k) 3 (3 * i) s) (λ t. places_on ss (3 * n - 3 * (i + 1)) (on k) t))
       ∙ sym (places_split 3 (3 * n - 3 * (i + 1)) (3 * i) s)
       ∙ ap (λ (k : ℕ). places_on ss k (3 * i) s) split
 
@@ -70,12 +70,12 @@ module _ (ss : Disk) where
   pub place_more : (now : Disk) → now ≡ ss → (i j : ℕ) (d : Sector) (part : ℕ) (s : Seen) → j < 3 → d ≡ sector_at ss (4 + i) → part ≡ 40 →
       next (place_on now s (4 + i) (take part (drop (40 * j) d.bytes))) (λ t. places_on ss (3 - (j + 1)) (3 * i + (j + 1)) t) ≡ places_on ss (3 - j) (3 * i + j) s
   unfolding places_on
-  place_more now same-disk i j d part s below there long =
+  place_more now same_disk i j d part s below there long =
       let row : i ≡ (3 * i + j) / 3 = omega arith in
       let column : j ≡ (3 * i + j) % 3 = omega arith in
       let on : 3 * i + (j + 1) ≡ 3 * i + j + 1 = omega arith in
       let left : suc (3 - (j + 1)) ≡ 3 - j = omega arith in
-      (λ k. next (place_on (same-disk k) s (4 + i) (take (long k) (drop (40 * j) (there k).bytes))) (λ t. places_on ss (3 - (j + 1)) (on k) t))
+      (λ k. next (place_on (same_disk k) s (4 + i) (take (long k) (drop (40 * j) (there k).bytes))) (λ t. places_on ss (3 - (j + 1)) (on k) t))
       ∙ (λ k. next (place_on ss s (4 + row k) (take 40 (drop (40 * column k) (sector_at ss (4 + row k)).bytes))) (λ t. places_on ss (3 - (j + 1)) (3 * i + j + 1) t))
       ∙ ap (λ (k : ℕ). places_on ss k (3 * i + j) s) left
 

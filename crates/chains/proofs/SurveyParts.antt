@@ -38,29 +38,29 @@ module _ (ss : Disk) where
     pub fails_at_label : (f d : Fault) (x : Result Unit Fault) (t : Scan) → l ≡ Err f → x ≡ Err d → d ≡ f → Scans (survey ss) x t
     fails_at_label f d x t fails = handed_on (survey ss) f d x t (in_parts ∙ ap (λ (y : Result Unit Fault). parts y (directory_on ss 32 0) (places_on ss 96 0 nothing_seen)) fails)
 
-    module _ (labelled : l ≡ Ok tt) (after-label : Disk) (same-label : after-label ≡ ss) (r : Result Unit Fault) (directory : r ≡ directory_on after-label 32 0) where
+    module _ (labelled : l ≡ Ok tt) (after_label : Disk) (same_label : after_label ≡ ss) (r : Result Unit Fault) (directory : r ≡ directory_on after_label 32 0) where
       from_directory : survey ss ≡ parts (Ok tt) r (places_on ss 96 0 nothing_seen)
       from_directory =
-          in_parts ∙ (λ i. parts (labelled i) (directory_on (sym same-label i) 32 0) (places_on ss 96 0 nothing_seen))
+          in_parts ∙ (λ i. parts (labelled i) (directory_on (sym same_label i) 32 0) (places_on ss 96 0 nothing_seen))
           ∙ ap (λ (y : Result Unit Fault). parts (Ok tt) y (places_on ss 96 0 nothing_seen)) (sym directory)
 
       pub fails_at_directory : (f d : Fault) (x : Result Unit Fault) (t : Scan) → r ≡ Err f → x ≡ Err d → d ≡ f → Scans (survey ss) x t
       fails_at_directory f d x t fails = handed_on (survey ss) f d x t (from_directory ∙ ap (λ (y : Result Unit Fault). parts (Ok tt) y (places_on ss 96 0 nothing_seen)) fails)
 
-      module _ (framed : r ≡ Ok tt) (after-directory : Disk) (same-directory : after-directory ≡ ss) (s : Seen) (fresh : s ≡ nothing_seen) (q : Result Unit Fault) (t : Scan) (places : Scans (places_on after-directory 96 0 s) q t) where
-        from_places : survey ss ≡ parts (Ok tt) (Ok tt) (places_on after-directory 96 0 s)
-        from_places = from_directory ∙ (λ i. parts (Ok tt) (framed i) (places_on (sym same-directory i) 96 0 (sym fresh i)))
+      module _ (framed : r ≡ Ok tt) (after_directory : Disk) (same_directory : after_directory ≡ ss) (s : Seen) (fresh : s ≡ nothing_seen) (q : Result Unit Fault) (t : Scan) (places : Scans (places_on after_directory 96 0 s) q t) where
+        from_places : survey ss ≡ parts (Ok tt) (Ok tt) (places_on after_directory 96 0 s)
+        from_places = from_directory ∙ (λ i. parts (Ok tt) (framed i) (places_on (sym same_directory i) 96 0 (sym fresh i)))
 
         pub fails_at_places : (f d : Fault) (x : Result Unit Fault) → q ≡ Err f → x ≡ Err d → d ≡ f → Scans (survey ss) x t
         fails_at_places f d x fails =
-            let fault : places_on after-directory 96 0 s ≡ Err f = scanned_err _ t f (subst (λ (y : Result Unit Fault). Scans (places_on after-directory 96 0 s) y t) fails places) in
+            let fault : places_on after_directory 96 0 s ≡ Err f = scanned_err _ t f (subst (λ (y : Result Unit Fault). Scans (places_on after_directory 96 0 s) y t) fails places) in
             handed_on (survey ss) f d x t (from_places ∙ ap (λ (y : Result Seen Fault). parts (Ok tt) (Ok tt) y) fault)
 
-        pub ends_with_map : q ≡ Ok tt → (after-places : Disk) → after-places ≡ ss → (m : Result Unit Fault) → m ≡ map_on after-places (to_be_marked size (bit_of t.met.bits)) 3 0 → Scans (survey ss) m t
-        ends_with_map fine after-places same-places m map =
-            let done : places_on after-directory 96 0 s ≡ Ok (seen_of t) = scanned_ok _ t (subst (λ (y : Result Unit Fault). Scans (places_on after-directory 96 0 s) y t) fine places) in
+        pub ends_with_map : q ≡ Ok tt → (after_places : Disk) → after_places ≡ ss → (m : Result Unit Fault) → m ≡ map_on after_places (to_be_marked size (bit_of t.met.bits)) 3 0 → Scans (survey ss) m t
+        ends_with_map fine after_places same_places m map =
+            let done : places_on after_directory 96 0 s ≡ Ok (seen_of t) = scanned_ok _ t (subst (λ (y : Result Unit Fault). Scans (places_on after_directory 96 0 s) y t) fine places) in
             let last : survey ss ≡ next m (λ _. Ok (seen_of t)) =
             from_places ∙ ap (λ (y : Result Seen Fault). parts (Ok tt) (Ok tt) y) done
-            ∙ (λ i. next (map_on (sym same-places i) (to_be_marked (sym sized i) (bit_of t.met.bits)) 3 0) (λ _. Ok (seen_of t)))
+            ∙ (λ i. next (map_on (sym same_places i) (to_be_marked (sym sized i) (bit_of t.met.bits)) 3 0) (λ _. Ok (seen_of t)))
             ∙ ap (λ (y : Result Unit Fault). next y (λ _. Ok (seen_of t))) (sym map) in
             subst (λ (y : Result Seen Fault). Scans y m t) (sym last) (by_last m t)

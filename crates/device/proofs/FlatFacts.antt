@@ -51,8 +51,8 @@ length_frames bs = length-map-range_with_len (frame bs) 0 (frame_count bs)
 pub frames_whole : (bs : List ℕ) → AllByRecursion WellFormed (frames bs)
 frames_whole bs = all_counted WellFormed (frame bs) (frame_count bs) (frame_whole bs)
 
-pub getD_frames : (bs : List ℕ) (n : ℕ) → n < frame_count bs → get_or (frames bs) n blank ≡ frame bs n
-getD_frames bs n h = get_or-map-range_with_len (frame bs) 0 (frame_count bs) n n blank h (omega arith)
+pub get_or_frames : (bs : List ℕ) (n : ℕ) → n < frame_count bs → get_or (frames bs) n blank ≡ frame bs n
+get_or_frames bs n h = get_or-map-range_with_len (frame bs) 0 (frame_count bs) n n blank h (omega arith)
 
 -- `fs` put over 132 bytes from `start` on
 module _ (old fs : List ℕ) (start : ℕ) (size : length fs ≡ 132) (fits : start + 132 ≤ length old) where
@@ -126,10 +126,10 @@ module _ (old : List ℕ) (n : ℕ) (s : Sector) (w : WellFormed s) (fits : 132 
       ext_get_or blank (frames new) (set (frames old) n s) (long ∙ sym (length-set (frames old) n s))
       (λ k l.
       let lk : k < frame_count old = omega (arith, l, size, length_frames new) in
-      getD_frames new k (omega (arith, lk, size))
+      get_or_frames new k (omega (arith, lk, size))
       ∙ ⊎_elim
       (λ (e : k ≡ n). subst (λ i. frame new i ≡ get_or (set (frames old) n s) i blank) (sym e) (frame_here ∙ sym (get_or-set_same (frames old) n s blank (omega (arith, h, length_frames old)))))
-      (λ (ne : k ≡ n → ⊥). frame_there k ne ∙ sym (getD_frames old k lk) ∙ sym (get_or-set_other (frames old) n k s blank ne))
+      (λ (ne : k ≡ n → ⊥). frame_there k ne ∙ sym (get_or_frames old k lk) ∙ sym (get_or-set_other (frames old) n k s blank ne))
       (cases_eq k n))
 
 pub flat_with : (bs new : List ℕ) (d t : Bool) (n : ℕ) (s : Sector) → n < frame_count bs → WellFormed s → new ≡ with_frame bs n s → flat new d t ≡ wrote (flat bs d t) n s

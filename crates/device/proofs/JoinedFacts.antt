@@ -8,8 +8,12 @@ use Rattle.std.proofs.lemmas.Bool.{or_parts, lt-ltb, le-ltb}
 use Rattle.device.specs.declared.fault.Fault.{Fault}
 use Rattle.device.specs.declared.sector.Sector.{Sector}
 use Rattle.device.specs.Device.{Medium, blank, WellFormed, fetched, stored, wrote}
-use Rattle.device.specs.Joined.{joined_sectors, joined, wrote_first, wrote_second}
+use Rattle.device.specs.Joined.{joined, wrote_first, wrote_second}
 use Rattle.device.proofs.DeviceFacts.{fetched_ok, stored_ok}
+
+-- the sectors of both
+abbrev joined_sectors : List Sector → List Sector → List Sector
+joined_sectors first second = take 65535 (first ++ second)
 
 module _ (a b : List Sector) where
   pub length_joined : length (joined_sectors a b) ≡ min 65535 (length a + length b)
@@ -22,11 +26,11 @@ module _ (a b : List Sector) where
     below : n < 65535
     below = omega (arith, length_joined)
 
-    getD_first : n < length a → get_or (joined_sectors a b) n blank ≡ get_or a n blank
-    getD_first h = get_or-take 65535 (a ++ b) n blank below ∙ get_or_append_left a b blank n h
+    get_or_first : n < length a → get_or (joined_sectors a b) n blank ≡ get_or a n blank
+    get_or_first h = get_or-take 65535 (a ++ b) n blank below ∙ get_or_append_left a b blank n h
 
-    getD_second : length a ≤ n → get_or (joined_sectors a b) n blank ≡ get_or b (n - length a) blank
-    getD_second h = get_or-take 65535 (a ++ b) n blank below ∙ get_or-append_right a b (length a) n blank refl h
+    get_or_second : length a ≤ n → get_or (joined_sectors a b) n blank ≡ get_or b (n - length a) blank
+    get_or_second h = get_or-take 65535 (a ++ b) n blank below ∙ get_or-append_right a b (length a) n blank refl h
 
     set_first : (s : Sector) → n < length a → joined_sectors (set a n s) b ≡ set (joined_sectors a b) n s
     set_first s h = ap (take 65535) (sym (set-append_left a b n s h)) ∙ take-set-lt 65535 (a ++ b) n s below
@@ -72,14 +76,14 @@ module _ (a b : Medium) (n : ℕ) (within : n < length (joined a b).sectors) (cl
   fetched_first h r e =
       e
       ∙ fetched_ok a n h (or_parts a.door b.door closed).0
-      ∙ ap Ok (sym (getD_first a.sectors b.sectors n within h))
+      ∙ ap Ok (sym (get_or_first a.sectors b.sectors n within h))
       ∙ sym (fetched_ok (joined a b) n within closed)
 
   pub fetched_second : length a.sectors ≤ n → (r : Result Sector Fault) → r ≡ fetched b (n - length a.sectors) → r ≡ fetched (joined a b) n
   fetched_second h r e =
       e
       ∙ fetched_ok b (n - length a.sectors) (inside h) (or_parts a.door b.door closed).1
-      ∙ ap Ok (sym (getD_second a.sectors b.sectors n within h))
+      ∙ ap Ok (sym (get_or_second a.sectors b.sectors n within h))
       ∙ sym (fetched_ok (joined a b) n within closed)
 
   -- and both tabs are off

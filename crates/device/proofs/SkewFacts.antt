@@ -77,15 +77,15 @@ module _ (m : Medium) where
   pub length_skewed : length (skewed_medium m).sectors ≡ length m.sectors
   length_skewed = length-map-range_with_len lies 0 size
 
-  getD_skewed : (n : ℕ) → n < length m.sectors → get_or (skewed_medium m).sectors n blank ≡ get_or m.sectors (skewed (length m.sectors) n) blank
-  getD_skewed n h = get_or-map-range_with_len lies 0 size n n blank h (omega arith)
+  get_or_skewed : (n : ℕ) → n < length m.sectors → get_or (skewed_medium m).sectors n blank ≡ get_or m.sectors (skewed (length m.sectors) n) blank
+  get_or_skewed n h = get_or-map-range_with_len lies 0 size n n blank h (omega arith)
 
   pub whole_skewed : AllByRecursion WellFormed m.sectors → AllByRecursion WellFormed (skewed_medium m).sectors
   whole_skewed w =
       All-from_get_or WellFormed (skewed_medium m).sectors blank
       (λ n h.
       let l : n < length m.sectors = omega (arith, h, length_skewed) in
-      subst WellFormed (sym (getD_skewed n l)) (All-get_or WellFormed m.sectors (skewed size n) blank (skewed_below size n l) w))
+      subst WellFormed (sym (get_or_skewed n l)) (All-get_or WellFormed m.sectors (skewed size n) blank (skewed_below size n l) w))
 
   test_skewed : (n : ℕ) → ltb (skewed size n) size ≡ ltb n (length (skewed_medium m).sectors)
   test_skewed n =
@@ -99,7 +99,7 @@ module _ (m : Medium) where
 
   fetched_skewed : (n : ℕ) → fetched m (skewed (length m.sectors) n) ≡ fetched (skewed_medium m) n
   fetched_skewed n =
-      ⊎_elim (λ (h : n < size). rw (test_skewed n, getD_skewed n h))
+      ⊎_elim (λ (h : n < size). rw (test_skewed n, get_or_skewed n h))
       (λ (h : size ≤ n).
       let f : ltb n (length (skewed_medium m).sectors) ≡ false = le-ltb n (length (skewed_medium m).sectors) (omega (arith, h, length_skewed)) in
       rw (test_skewed n, f))
@@ -127,7 +127,7 @@ module _ (m : Medium) where
       ∙ sym (ap (λ i. get_or (set old n s) i blank) e ∙ get_or-set_same old n s blank (omega (arith, ln, length_skewed))))
       (λ (ne : k ≡ n → ⊥).
       get_or-set_other m.sectors at (skewed size k) s blank (λ e. ne (skewed_once size k n e))
-      ∙ sym (getD_skewed k lk)
+      ∙ sym (get_or_skewed k lk)
       ∙ sym (get_or-set_other old n k s blank ne))
       (cases_eq k n))
       in

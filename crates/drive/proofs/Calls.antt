@@ -74,15 +74,15 @@ module _ {D S : Type 0} (r : Reading D) (a : Allocating S) (d : Drive D S) where
       ((l : Layout) → layout_after l b q buf [] ≡ None) →
       m.sectors ≡ (r.medium d.device).sectors → m.door ≡ door → m.tab ≡ tab →
       Serving r a b (record { request = q; buffer = buf }) d (told_by ans [] buf) e
-  settled q m ans e buf b door tab does rep before o none sectors door-is tab-is =
+  settled q m ans e buf b door tab does rep before o none sectors door_is tab_is =
       let v = rep.tallies in
       let same : (r.medium e.device).sectors ≡ (r.medium d.device).sectors = ap (λ y. y.sectors) does.medium ∙ sectors in
       let free : (n : ℕ) → a.member e.allocator n ≡ a.member d.allocator n = λ n. ap (λ s. a.member s n) does.allocator in
       served r a b (record { request = q; buffer = buf }) d e (told_by ans [] buf) rep before
       (ap told o ∙ ap (λ y. told_by y [] buf) (sym does.answer))
       (record {
-        door = ap (λ y. y.door) does.medium ∙ (door-is ∙ sym (ap (λ y. y.after.door) o));
-        tab = ap (λ y. y.tab) does.medium ∙ (tab-is ∙ sym (ap (λ y. y.after.tab) o));
+        door = ap (λ y. y.door) does.medium ∙ (door_is ∙ sym (ap (λ y. y.after.door) o));
+        tab = ap (λ y. y.tab) does.medium ∙ (tab_is ∙ sym (ap (λ y. y.after.tab) o));
         units = ap (λ s. map unit_of s.units) does.state ∙ (v.units ∙ sym (ap (λ y. y.after.units) o));
         initialized = ap (λ s. s.initialized) does.state ∙ (v.initialized ∙ sym (ap (λ y. y.after.initialized) o));
         map_changed = ap (λ s. s.changed) does.state ∙ (v.map_changed ∙ sym (ap (λ y. y.after.changed) o));

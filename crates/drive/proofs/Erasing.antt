@@ -176,11 +176,11 @@ next_ok : {A B : Type 0} {x : B} (y : Result A Fault) (k : A → Result B Fault)
 next_ok (Ok z) k e = (z, refl, e)
 next_ok (Err f) k e = let z : ◌≡◌ {A = ℕ} 0 1 = cc in absurd (omega arith)
 
-record MayErase (on open_door : Bool) (o : Option Located) (tab-on : Bool) (x : Located) : Type 0 where
+record MayErase (on open_door : Bool) (o : Option Located) (tab_on : Bool) (x : Located) : Type 0 where
   initialized : on ≡ true
   door : open_door ≡ false
   located : o ≡ Some x
-  tab : tab-on ≡ false
+  tab : tab_on ≡ false
 
 was_found : (o : Option Located) (z : Located) → found_or_fault o ≡ Ok z → o ≡ Some z
 was_found None z e = never e
@@ -238,18 +238,18 @@ module _ {D S : Type 0} (r : Reading D) (a : Allocating S) (n : List ℕ) (d k :
 -- ---- the model's checks
 
 abbrev erase_checks : Bool → Bool → Bool → Bool → Bool → Bool → List Check
-erase_checks on door is-legal here held tab =
-    request_check (not on) NotInitialized ∷ door_check door ∷ request_check (not is-legal) BadName ∷ request_check (not here) FileNotFound ∷ request_check held AlreadyOpen ∷ tab_check tab ∷ []
+erase_checks on door is_legal here held tab =
+    request_check (not on) NotInitialized ∷ door_check door ∷ request_check (not is_legal) BadName ∷ request_check (not here) FileNotFound ∷ request_check held AlreadyOpen ∷ tab_check tab ∷ []
 
 -- the refusals before the look-up, by it and after it are the model's list
-checks_in_order : (on door is-legal : Bool) (o : Option Located) (held tab : Bool) →
+checks_in_order : (on door is_legal : Bool) (o : Option Located) (held tab : Bool) →
     next
-    (next (first_fault (request_check (not on) NotInitialized ∷ door_check door ∷ request_check (not is-legal) BadName ∷ []))
+    (next (first_fault (request_check (not on) NotInitialized ∷ door_check door ∷ request_check (not is_legal) BadName ∷ []))
     (λ _. next (found_or_fault o) (λ x. next (first_fault (after_look_up held tab)) (λ _. Ok x))))
     (λ _. Ok tt)
-    ≡ first_fault (erase_checks on door is-legal (is_some o) held tab)
-checks_in_order false door is-legal o held tab = refl
-checks_in_order true true is-legal o held tab = refl
+    ≡ first_fault (erase_checks on door is_legal (is_some o) held tab)
+checks_in_order false door is_legal o held tab = refl
+checks_in_order true true is_legal o held tab = refl
 checks_in_order true false false o held tab = refl
 checks_in_order true false true None held tab = refl
 checks_in_order true false true (Some x) true tab = refl
@@ -257,9 +257,9 @@ checks_in_order true false true (Some x) false true = refl
 checks_in_order true false true (Some x) false false = refl
 
 -- a drive that is not initialised is refused before anything else is asked
-only_if_on : (on door is-legal here here' held tab : Bool) → (on ≡ true → here ≡ here') → first_fault (erase_checks on door is-legal here held tab) ≡ first_fault (erase_checks on door is-legal here' held tab)
-only_if_on true door is-legal here here' held tab e = ap (λ h. first_fault (erase_checks true door is-legal h held tab)) (e refl)
-only_if_on false door is-legal here here' held tab e = refl
+only_if_on : (on door is_legal here here' held tab : Bool) → (on ≡ true → here ≡ here') → first_fault (erase_checks on door is_legal here held tab) ≡ first_fault (erase_checks on door is_legal here' held tab)
+only_if_on true door is_legal here here' held tab e = ap (λ h. first_fault (erase_checks true door is_legal h held tab)) (e refl)
+only_if_on false door is_legal here here' held tab e = refl
 
 -- ---- the promise
 
@@ -279,12 +279,12 @@ module _ {D S : Type 0} (r : Reading D) (a : Allocating S) (n : List ℕ) (d e :
   -- the layout of the drive's disk, by the model
   known : (l : Layout) → (b.initialized ≡ true → Laid b l (r.medium d.device).sectors × Spares l (a.member d.allocator)) → d.state.initialized ≡ true → Knows r a d l
   known l laid on =
-      let is-on = sym rep.tallies.initialized ∙ on in
-      let own = laid is-on in
+      let is_on = sym rep.tallies.initialized ∙ on in
+      let own = laid is_on in
       record {
         laid = record { proper = own.0.follows.matches.proper; size = own.0.size; shows = own.0.shows };
         spares = own.1;
-        span = rep.span is-on ∙ sym own.0.follows.matches.size;
+        span = rep.span is_on ∙ sym own.0.follows.matches.size;
       }
 
   same_checks : (l : Layout) → (b.initialized ≡ true → Laid b l (r.medium d.device).sectors × Spares l (a.member d.allocator)) → next (own_erasable r n d l) (λ _. Ok tt) ≡ first_fault model_checks
@@ -312,12 +312,12 @@ module _ {D S : Type 0} (r : Reading D) (a : Allocating S) (n : List ℕ) (d e :
   erase_refused : (f : Fault) (ans : Answer) → TriesErasing r a n d (Err f) e → ans ≡ from_fault f → Serving r a b call d (told_by ans [] buf) e
   erase_refused f ans does is =
       let err = answered_as (Err f) does in
-      let is-refusal = outcome_is (Err f) err in
+      let is_refusal = outcome_is (Err f) err in
       let own = some_layout b.initialized refl in
       let same = (does (sixteen r a b d rep) own.0 (known own.0 own.1)).leaves in
       turned_down r a b call d e (told_by ans [] buf) rep (λ i. let z : ◌≡◌ {A = ℕ} 0 1 = cc in absurd (omega arith))
-      (ap told is-refusal ∙ (ap (λ k. told_by (record { code = f.code; length = 0; layer = f.layer; sector = k }) [] buf) (sym (no_sector model_checks f (sym err))) ∙ ap (λ x. told_by x [] buf) (sym is)))
-      (ap (λ x. x.refused) is-refusal) same.medium (λ k. ap (λ s. a.member s k) same.allocator) (ap a.span same.allocator) same.state
+      (ap told is_refusal ∙ (ap (λ k. told_by (record { code = f.code; length = 0; layer = f.layer; sector = k }) [] buf) (sym (no_sector model_checks f (sym err))) ∙ ap (λ x. told_by x [] buf) (sym is)))
+      (ap (λ x. x.refused) is_refusal) same.medium (λ k. ap (λ s. a.member s k) same.allocator) (ap a.span same.allocator) same.state
 
   -- the model is initialised and has the file, where nothing refuses
   accepted_then : Ok tt ≡ first_fault model_checks → (b.initialized ≡ true) × (present b n ≡ true)

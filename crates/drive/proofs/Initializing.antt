@@ -110,10 +110,10 @@ module _ {D S : Type 0} (r : Reading D) (a : Allocating S) (d e : Drive D S) (bu
   checked : (f : Fault) (ans : Answer) → ReadsOnlySound m.sectors → first_fault (own_initialize_checks r d) ≡ Err f → ans ≡ from_fault f →
       r.medium e.device ≡ m → e.allocator ≡ d.allocator → e.state ≡ d.state → Serving r a b call d (told_by ans [] buf) e
   checked f ans reads err is medium allocator state =
-      let is-refusal = outcome_is ∙ ap (by_fault b buf after_checks) err in
+      let is_refusal = outcome_is ∙ ap (by_fault b buf after_checks) err in
       turned_down r a b call d e (told_by ans [] buf) rep (λ _. reads)
-      (ap told is-refusal ∙ (ap (λ n. told_by (record { code = f.code; length = 0; layer = f.layer; sector = n }) [] buf) (sym (no_sector (own_initialize_checks r d) f err)) ∙ ap (λ x. told_by x [] buf) (sym is)))
-      (ap (λ x. x.refused) is-refusal) medium (λ n. ap (λ s. a.member s n) allocator) (ap a.span allocator) state
+      (ap told is_refusal ∙ (ap (λ n. told_by (record { code = f.code; length = 0; layer = f.layer; sector = n }) [] buf) (sym (no_sector (own_initialize_checks r d) f err)) ∙ ap (λ x. told_by x [] buf) (sym is)))
+      (ap (λ x. x.refused) is_refusal) medium (λ n. ap (λ s. a.member s n) allocator) (ap a.span allocator) state
 
   -- the disk was taken: its layout is l, and the model's files are as many
   taken : (ans : Answer) (l : Layout) (b' : Model) → ReadsOnlySound m.sectors → ans ≡ done_answer → r.medium e.device ≡ m → TakesOver r a d l e →
@@ -134,7 +134,7 @@ module _ {D S : Type 0} (r : Reading D) (a : Allocating S) (d e : Drive D S) (bu
         untouched = λ _. ap (λ x. x.sectors) medium;
         still_free = λ refused _. absurd (false≢true (sym (ap (λ x. x.refused) done_is) ∙ refused));
         changed = λ _ k laid found.
-            let k-is = same k laid (λ f. found f refl) in
+            let k_is = same k laid (λ f. found f refl) in
             record {
               taken = [];
               count = sym (ap (λ x. x.added) done_is);
@@ -142,8 +142,8 @@ module _ {D S : Type 0} (r : Reading D) (a : Allocating S) (d e : Drive D S) (bu
               written = ap (λ x. x.sectors) medium;
               spares = λ _ n.
                   takes.free n
-                  ∙ (ap (λ s. leb reserved n && (ltb n s && not (member n (numbers (chains l.places))))) (v.size ∙ sym k-is.1)
-                  ∙ ap (λ (x : Layout). leb reserved n && (ltb n k.size && not (member n (numbers (chains x.places))))) (sym k-is.0));
+                  ∙ (ap (λ s. leb reserved n && (ltb n s && not (member n (numbers (chains l.places))))) (v.size ∙ sym k_is.1)
+                  ∙ ap (λ (x : Layout). leb reserved n && (ltb n k.size && not (member n (numbers (chains x.places))))) (sym k_is.0));
             };
       })
       (ap (λ s. s.files) takes.state ∙ (many ∙ sym (ap (λ x. length x.after.files) done_is)))
@@ -152,7 +152,7 @@ module _ {D S : Type 0} (r : Reading D) (a : Allocating S) (d e : Drive D S) (bu
   -- a fault in reading: nothing is known of the disk, and nothing was before
   turned_away : (f : Fault) (c n : ℕ) (ans : Answer) → ReadsOnlySound m.sectors → ans ≡ from_fault f → r.medium e.device ≡ m → TurnsAway d c n f e →
       b.initialized ≡ false → o ≡ read_in b (faulty c n) buf → Serving r a b call d (told_by ans [] buf) e
-  turned_away f c n ans reads is medium away off fault-is =
+  turned_away f c n ans reads is medium away off fault_is =
       let v = rep.tallies in
       let same : e.state ≡ d.state = away.state ∙ ap (λ i. cond i (unread_state d.state) d.state) (v.initialized ∙ off) in
       let shown : told_by ans [] buf ≡ told (read_in b (faulty c n) buf) = ap (λ x. told_by x [] buf) is ∙ (λ i. record {
@@ -163,7 +163,7 @@ module _ {D S : Type 0} (r : Reading D) (a : Allocating S) (d e : Drive D S) (bu
         numbers = [];
         buffer = buf;
       }) in
-      turned_down r a b call d e (told_by ans [] buf) rep (λ _. reads) (ap told fault-is ∙ sym shown) (ap (λ x. x.refused) fault-is) medium (λ k. ap (λ s. a.member s k) away.allocator) (ap a.span away.allocator) same
+      turned_down r a b call d e (told_by ans [] buf) rep (λ _. reads) (ap told fault_is ∙ sym shown) (ap (λ x. x.refused) fault_is) medium (λ k. ap (λ s. a.member s k) away.allocator) (ap a.span away.allocator) same
 
   module _ (x : Result Unit Fault) (ans : Answer) (is : ans ≡ answer_of x) (does : Initializes r a d x e) where
     reads : ReadsOnlySound m.sectors
@@ -195,16 +195,16 @@ module _ {D S : Type 0} (r : Reading D) (a : Allocating S) (d e : Drive D S) (bu
 
       -- a drive that is not initialised takes what is read
       first_time : b.initialized ≡ false → (z : Found Layout) → reading m.sectors ≡ z → (y : Result Unit Fault) → ans ≡ answer_of y → ReadsIn r a d z y e → Serving r a b call d (told_by ans [] buf) e
-      first_time off (fault c n) e-is (Ok u) is none = absurd none
-      first_time off (fault c n) e-is (Err f) is away =
-          turned_away f c n ans reads is does.medium away off (outcome_then ∙ (ap (λ i. cond i (done (started b b.files) buf 0) (read_in b (as_reading (reading m.sectors)) buf)) off ∙ ap (λ z. read_in b (as_reading z) buf) e-is))
-      first_time off (read l) e-is (Err f) is none = absurd none
-      first_time off (read l) e-is (Ok u) is takes =
+      first_time off (fault c n) e_is (Ok u) is none = absurd none
+      first_time off (fault c n) e_is (Err f) is away =
+          turned_away f c n ans reads is does.medium away off (outcome_then ∙ (ap (λ i. cond i (done (started b b.files) buf 0) (read_in b (as_reading (reading m.sectors)) buf)) off ∙ ap (λ z. read_in b (as_reading z) buf) e_is))
+      first_time off (read l) e_is (Err f) is none = absurd none
+      first_time off (read l) e_is (Ok u) is takes =
           taken ans l (started b (files_in l.places)) reads is does.medium takes
-          (outcome_then ∙ (ap (λ i. cond i (done (started b b.files) buf 0) (read_in b (as_reading (reading m.sectors)) buf)) off ∙ ap (λ z. read_in b (as_reading z) buf) e-is))
+          (outcome_then ∙ (ap (λ i. cond i (done (started b b.files) buf 0) (read_in b (as_reading (reading m.sectors)) buf)) off ∙ ap (λ z. read_in b (as_reading z) buf) e_is))
           refl refl refl refl refl refl
           (sym (as_many l.places))
-          (λ k _ found. let k-read = found off in (read_same (sym k-read ∙ e-is), sym (reads k fits k-read).size ∙ rep.tallies.size))
+          (λ k _ found. let k_read = found off in (read_same (sym k_read ∙ e_is), sym (reads k fits k_read).size ∙ rep.tallies.size))
 
       read_then : (i : Bool) → b.initialized ≡ i → Serving r a b call d (told_by ans [] buf) e
       read_then true on =

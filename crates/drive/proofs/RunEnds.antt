@@ -63,9 +63,9 @@ served_next r a i ys e e' z y within serve same xs d s =
 -- all of them
 pub all_served : {D S : Type 0} (r : Reading D) (a : Allocating S) (i : ℕ) (xs : List Exchange) (d : Drive D S) (ys : List Exchange) (e : Drive D S) → length xs ≤ i → ServedTo r a i xs d ys e → ServesAll r a d xs ys e × SameRequests xs ys
 all_served r a i xs d ys e past s =
-    let whole-xs = take_all i xs past in
-    let whole-ys = take_all i ys (omega (arith, s.long)) in
-    (subst (λ l. ServesAll r a d l ys e) whole-xs (subst (λ l. ServesAll r a d (take i xs) l e) whole-ys s.served), subst (λ l. SameRequests l ys) whole-xs (subst (SameRequests (take i xs)) whole-ys s.requests))
+    let whole_xs = take_all i xs past in
+    let whole_ys = take_all i ys (omega (arith, s.long)) in
+    (subst (λ l. ServesAll r a d l ys e) whole_xs (subst (λ l. ServesAll r a d (take i xs) l e) whole_ys s.served), subst (λ l. SameRequests l ys) whole_xs (subst (SameRequests (take i xs)) whole_ys s.requests))
 
 -- from a new drive it is a run, whole
 pub run_from_new : {D S : Type 0} (r : Reading D) (a : Allocating S) (d : Drive D S) (xs ys : List Exchange) (e : Drive D S) → ServesAll r a d xs ys e → RunsIfFresh r a d xs ys e

@@ -34,14 +34,14 @@ changed_bit : (op : ℕ → ℕ → ℕ) (b k : ℕ) (v : Bool)
     → ((x : ℕ) → op x 0 ≡ x)
     → eqb (op (b / 2 ^ k % 2) 1) 1 ≡ v
     → (j : ℕ) → bit_at (op b (2 ^ k)) j ≡ cond (eqb j k) v (bit_at b j)
-changed_bit op b k v split zero-r one j =
+changed_bit op b k v split zero_r one j =
     ap (λ x. eqb x 1) (split j)
     ∙ ⊎_elim
     (λ (e : j ≡ k).
     ap (λ i. eqb (op (b / 2 ^ i % 2) (2 ^ k / 2 ^ i % 2)) 1) e ∙ ap (λ x. eqb (op (b / 2 ^ k % 2) x) 1) (one_bit_same k) ∙ one
     ∙ sym (cond-true (eqb j k) v (bit_at b j) (eq-eqb j k e)))
     (λ (ne : j ≡ k → ⊥).
-    ap (λ x. eqb (op (b / 2 ^ j % 2) x) 1) (one_bit_other k j ne) ∙ ap (λ x. eqb x 1) (zero-r (b / 2 ^ j % 2))
+    ap (λ x. eqb (op (b / 2 ^ j % 2) x) 1) (one_bit_other k j ne) ∙ ap (λ x. eqb x 1) (zero_r (b / 2 ^ j % 2))
     ∙ sym (cond-false (eqb j k) v (bit_at b j) (ne_eqb j k ne)))
     (cases_eq j k)
 
@@ -75,13 +75,13 @@ bits_set bs n b v l h m =
     ∙ sym (cond-false (eqb m n) v (bit_of bs m) (ne_eqb m n (λ e. nq (ap (λ x. x / 8) e)))))
     (cases_eq (m / 8) (n / 8))
 
-pub getD_zeros : (k i : ℕ) → ◌≡◌ {A = ℕ} (get_or (replicate k 0) i 0) 0
-getD_zeros zero i = refl
-getD_zeros (suc k) zero = refl
-getD_zeros (suc k) (suc i) = getD_zeros k i
+pub get_or_zeros : (k i : ℕ) → ◌≡◌ {A = ℕ} (get_or (replicate k 0) i 0) 0
+get_or_zeros zero i = refl
+get_or_zeros (suc k) zero = refl
+get_or_zeros (suc k) (suc i) = get_or_zeros k i
 
 zero_bit : (j : ℕ) → bit_at 0 j ≡ false
 zero_bit j = let e : 0 / 2 ^ j ≡ 0 = div-eq_of_lt (pow_pos j) in ap (λ x. eqb (x % 2) 1) e
 
 pub no_bits : (k n : ℕ) → bit_of (replicate k 0) n ≡ false
-no_bits k n = ap (λ x. bit_at x (n % 8)) (getD_zeros k (n / 8)) ∙ zero_bit (n % 8)
+no_bits k n = ap (λ x. bit_at x (n % 8)) (get_or_zeros k (n / 8)) ∙ zero_bit (n % 8)

@@ -117,7 +117,7 @@ module _ (f : ℕ → ℕ) (span : ℕ) (ch : Chained f span) where
         }
 
 -- two places of a table are written, one after the other
-module _ (next : List ℕ) (a b x y : ℕ) (in-a : a < length next) (in_b : b < length next) (ne : a ≡ b → ⊥) where
+module _ (next : List ℕ) (a b x y : ℕ) (in_a : a < length next) (in_b : b < length next) (ne : a ≡ b → ⊥) where
   abbrev written : List ℕ
   written = set (set next a x) b y
 
@@ -125,7 +125,7 @@ module _ (next : List ℕ) (a b x y : ℕ) (in-a : a < length next) (in_b : b < 
   at_second = get_or-set_same (set next a x) b y 0 (omega (arith, length-set next a x))
 
   at_first : link written a ≡ x
-  at_first = get_or-set_other (set next a x) b a y 0 ne ∙ get_or-set_same next a x 0 in-a
+  at_first = get_or-set_other (set next a x) b a y 0 ne ∙ get_or-set_same next a x 0 in_a
 
   elsewhere : (q : ℕ) → (q ≡ a → ⊥) → (q ≡ b → ⊥) → link written q ≡ link next q
   elsewhere q na nb = get_or-set_other (set next a x) b q y 0 nb ∙ get_or-set_other next a q x 0 na
@@ -138,12 +138,12 @@ pub record Changed (old new : List ℕ) (span n : ℕ) (v : Bool) : Type 0 where
 
 -- the place of n changes, and another one, p, that is in the chain before and after
 changed_members : (old new : List ℕ) (p n : ℕ) (v : Bool) → linked new n ≡ v → 0 < link old p → 0 < link new p → ((q : ℕ) → (q ≡ p → ⊥) → (q ≡ n + 1 → ⊥) → link new q ≡ link old q) → (m : ℕ) → linked new m ≡ cond (eqb m n) v (linked old m)
-changed_members old new p n v here on-old on-new other m =
+changed_members old new p n v here on_old on_new other m =
     ⊎_elim
     (λ (e : m ≡ n). ap (linked new) e ∙ here ∙ sym (cond-true (eqb m n) v (linked old m) (eq-eqb m n e)))
     (λ (ne : m ≡ n → ⊥).
     ⊎_elim
-    (λ (e : m + 1 ≡ p). rw e (lt-ltb 0 (link new p) on-new ∙ sym (lt-ltb 0 (link old p) on-old)))
+    (λ (e : m + 1 ≡ p). rw e (lt-ltb 0 (link new p) on_new ∙ sym (lt-ltb 0 (link old p) on_old)))
     (λ (np : m + 1 ≡ p → ⊥). ap (ltb 0) (other (m + 1) np (λ e. ne (omega arith))))
     (cases_eq (m + 1) p)
     ∙ sym (cond-false (eqb m n) v (linked old m) (ne_eqb m n ne)))

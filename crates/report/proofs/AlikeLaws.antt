@@ -16,8 +16,8 @@ unlike (x ∷ xs) (y ∷ ys) h = and_false (same_exchange x y) (same_answers xs 
 
 -- what is left from place i on, by the exchanges there
 pub alike_from : (xs ys : List Exchange) (i : ℕ) (a b : Exchange) (v : Bool) → i < length xs → i < length ys → a ≡ get_or xs i a → b ≡ get_or ys i b → v ≡ same_exchange a b → (v && same_answers (drop (i + 1) xs) (drop (i + 1) ys)) ≡ same_answers (drop i xs) (drop i ys)
-alike_from xs ys i a b v lx ly is-a is_b e =
-    ap (λ w. w && same_answers (drop (i + 1) xs) (drop (i + 1) ys)) (e ∙ (ap (λ x. same_exchange x b) is-a ∙ ap (same_exchange (get_or xs i a)) is_b))
+alike_from xs ys i a b v lx ly is_a is_b e =
+    ap (λ w. w && same_answers (drop (i + 1) xs) (drop (i + 1) ys)) (e ∙ (ap (λ x. same_exchange x b) is_a ∙ ap (same_exchange (get_or xs i a)) is_b))
     ∙ sym (ap (λ l. same_answers l (drop i ys)) (drop_more xs i a lx) ∙ ap (same_answers (get_or xs i a ∷ drop (i + 1) xs)) (drop_more ys i b ly))
 
 -- nothing is left past the end

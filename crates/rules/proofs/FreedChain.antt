@@ -85,8 +85,8 @@ module _ (d : Layout) (proper : ValidLayout d) (p : ℕ) (f : Entry) (there : ge
       (used_by_either n ∙ ap (λ x. x || member n (numbers (chains places_without))) h)
 
   -- whether n is the descriptor's, a record's, used by another file, and within the disk
-  given_back : (at-descriptor at-record other low high : Bool) → ((at-descriptor || at-record) ≡ true → other ≡ false) → ((at-descriptor || at-record) ≡ true → (low && high) ≡ true) →
-      (at-descriptor || ((low && (high && not ((at-descriptor || at-record) || other))) || at-record)) ≡ (low && (high && not other))
+  given_back : (at_descriptor at_record other low high : Bool) → ((at_descriptor || at_record) ≡ true → other ≡ false) → ((at_descriptor || at_record) ≡ true → (low && high) ≡ true) →
+      (at_descriptor || ((low && (high && not ((at_descriptor || at_record) || other))) || at_record)) ≡ (low && (high && not other))
   given_back true r o l h one usable =
       let inside = and_parts l h (usable refl) in
       let alone = one refl in

@@ -61,8 +61,8 @@ there_own (Some h ∷ es) zero f g e = part_itself (own g ++ addresses es)
 there_own (None ∷ es) (suc p) f g e = there_own es p f g e
 there_own (Some h ∷ es) (suc p) f g e = join (part_before (own h) (there_own es p f g e)) (part_front (own h) (own g) (addresses (set es p None)))
 
-given_back : (at-descriptor at-record other low high : Bool) → ((at-descriptor || at-record) ≡ true → other ≡ false) → ((at-descriptor || at-record) ≡ true → (low && high) ≡ true) → (at-record ≡ true → at-descriptor ≡ false) →
-    ((low && (high && not ((at-descriptor || at-record) || other))) || at-record) ≡ (low && (high && not (at-descriptor || other)))
+given_back : (at_descriptor at_record other low high : Bool) → ((at_descriptor || at_record) ≡ true → other ≡ false) → ((at_descriptor || at_record) ≡ true → (low && high) ≡ true) → (at_record ≡ true → at_descriptor ≡ false) →
+    ((low && (high && not ((at_descriptor || at_record) || other))) || at_record) ≡ (low && (high && not (at_descriptor || other)))
 given_back d true o l h one usable apart =
     let off = apart refl in
     let whole : (d || true) ≡ true = ap (λ x. x || true) off in

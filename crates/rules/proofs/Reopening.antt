@@ -5,7 +5,7 @@ use Rattle.std.proofs.ByRecursion.{All-weaker}
 use Rattle.chains.specs.Layout.{Disk, Layout, sized, reserved, member, numbers, chains, fixed_sectors, Contains}
 use Rattle.chains.specs.Sound.{ValidLayout, Sound}
 use Rattle.chains.specs.Reading.{read}
-use Rattle.chains.specs.Reading as chains-reading
+use Rattle.chains.specs.Reading as chains_reading
 use Rattle.rules.specs.Model.{Model, File, Supplied, sound, Format, Initialize, is_closed, any, find, done, started, new_model, response}
 use Rattle.rules.specs.Effects.{layout_after}
 use Rattle.rules.specs.Matching.{Matches, Unused, Follows, Current, Rearranged}
@@ -54,7 +54,7 @@ reads_new : (s : ℕ) (tab : Bool) (fs : List File) → sized s ≡ true → res
 reads_new s tab fs h = pick (sized s) _ _ h
 
 -- and any new drive over it has the model's files
-pub reopens : (b : Model) (d : Layout) (ss : Disk) → Matches b d → length ss ≡ d.size → chains-reading.reading ss ≡ read d → Reopens ss b.files
+pub reopens : (b : Model) (d : Layout) (ss : Disk) → Matches b d → length ss ≡ d.size → chains_reading.reading ss ≡ read d → Reopens ss b.files
 reopens b d ss m size e =
     let fs = files_in d.places in
     let told : supplied_by ss ≡ record { reading = sound fs } = ap (λ r. record { reading = as_reading r }) e in

@@ -53,12 +53,12 @@ module _ (b : Model) (v v' : View) (t : Tallies b v) where
   -- before the first FORMAT or INITIALIZE
   module _ (f : b.initialized ≡ false) where
     idle : (q : Call) → Served b v q v' → (outcome b v q).refused ≡ false → first_reading q.request ≡ false → (outcome b v q).after.initialized ≡ b.initialized → Got b v q v'
-    idle q s r no-reading e =
+    idle q s r no_reading e =
         let d = formatted [] 0 in
         record {
           layout = d;
           surveyed = λ i. absurd (both_ways b.initialized f i);
-          effect = s.changed r d (λ i. absurd (both_ways b.initialized f i)) (λ _ h. absurd (both_ways (first_reading q.request) no-reading h));
+          effect = s.changed r d (λ i. absurd (both_ways b.initialized f i)) (λ _ h. absurd (both_ways (first_reading q.request) no_reading h));
           laid = λ i. absurd (both_ways (outcome b v q).after.initialized (e ∙ f) i);
         }
 

@@ -74,7 +74,7 @@ module _ (d : Layout) (ss : Disk) (p : ValidLayout d) (size : length ss ≡ d.si
       let m1 : links_at 1 ≡ get_or d.reserved_links 1 no_links = ap (λ s. record { back = s.back; forward = s.forward }) label_shown.1.0 in
       let m2 : links_at 2 ≡ get_or d.reserved_links 2 no_links = ap (λ s. record { back = s.back; forward = s.forward }) label_shown.1.1.0 in
       let m3 : links_at 3 ≡ get_or d.reserved_links 3 no_links = ap (λ s. record { back = s.back; forward = s.forward }) label_shown.1.1.1.0 in
-      let all-four = four no_links d.reserved_links p.reserved_links in
+      let all_four = four no_links d.reserved_links p.reserved_links in
       let e : links_at 0 ∷ (links_at 1 ∷ (links_at 2 ∷ (links_at 3 ∷ []))) ≡ d.reserved_links = cc in
       e
 
@@ -83,7 +83,7 @@ module _ (d : Layout) (ss : Disk) (p : ValidLayout d) (size : length ss ≡ d.si
       let a : (sector_at ss 1).bytes ≡ get_or d.map 0 [] = ap (λ s. s.bytes) label_shown.1.0 in
       let b : (sector_at ss 2).bytes ≡ get_or d.map 1 [] = ap (λ s. s.bytes) label_shown.1.1.0 in
       let c : (sector_at ss 3).bytes ≡ get_or d.map 2 [] = ap (λ s. s.bytes) label_shown.1.1.1.0 in
-      let All-three = three [] d.map p.map in
+      let all_three = three [] d.map p.map in
       cc
 
   pub survey_read : parse_layout ss ≡ read d
