@@ -1,6 +1,7 @@
 -- What the bytes of a flat image say of its sectors.
-use Rattle.std.proofs.Common.{◌≡◌, ℕ, ◌+◌, ◌-◌, ◌*◌, ◌/◌, ◌%◌, ◌^◌, ◌<◌, ◌≤◌, min, Bool, List, [], ◌∷◌, ◌++◌, map, length, get_or, take, drop, set, Vec, sym, refl, ap, ◌∙◌, subst, ⊎_elim, arith, rules}
+use Rattle.std.proofs.Common.{◌≡◌, ℕ, ◌+◌, ◌-◌, ◌*◌, ◌/◌, ◌%◌, ◌^◌, ◌<◌, ◌≤◌, min, Bool, List, [], ◌∷◌, ◌++◌, map, length, get_or, take, drop, set, Vec, w16, sym, refl, ap, ◌∙◌, subst, ⊎_elim, arith, rules}
 use lib.Seq.{paste}
+use Rattle.std.specs.Int.{to_le_bytes}
 use Rattle.std.specs.Vec.{with_items}
 use Rattle.std.specs.List.{range_with_len, AllByRecursion}
 use Rattle.std.proofs.lemmas.List.FromFn.{length-map-range_with_len, get_or-map-range_with_len, fill_by_all}
@@ -73,6 +74,19 @@ module _ (old fs : List ℕ) (start : ℕ) (size : length fs ≡ 132) (fits : st
 
 abbrev links : Sector → List ℕ
 links s = s.back % 256 ∷ s.back / 256 ∷ s.forward % 256 ∷ s.forward / 256 ∷ []
+
+-- a link as its two bytes
+link_bytes : (n : ℕ) (bs : List ℕ) → n < 2 ^ 16 → bs ≡ to_le_bytes w16 n → (get_or bs 0 0 ≡ n % 256) × (get_or bs 1 0 ≡ n / 256)
+link_bytes n bs h e =
+    let high : n / 256 % 256 ≡ n / 256 = omega arith in
+    (ap (λ xs. get_or xs 0 0) e, ap (λ xs. get_or xs 1 0) e ∙ high)
+
+-- the bytes of both links
+pub links_are : (s : Sector) (b f : List ℕ) → WellFormed s → b ≡ to_le_bytes w16 s.back → f ≡ to_le_bytes w16 s.forward → get_or b 0 0 ∷ get_or b 1 0 ∷ get_or f 0 0 ∷ get_or f 1 0 ∷ [] ≡ links s
+links_are s b f w e g =
+    let x = link_bytes s.back b w.back e in
+    let y = link_bytes s.forward f w.forward g in
+    λ i. x.0 i ∷ x.1 i ∷ y.0 i ∷ y.1 i ∷ []
 
 length_frame : (s : Sector) → WellFormed s → length (frame_bytes s) ≡ 132
 length_frame s w = length-append s.bytes (links s) ∙ ap (λ k. k + 4) w.count

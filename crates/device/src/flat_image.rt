@@ -4,7 +4,7 @@ ghost use Rattle.std.specs.List.{AllByRecursion};
 ghost use Rattle.device.specs.Device.{WellFormed, blank, fetched, stored, wrote, with_door, with_tab};
 ghost use Rattle.device.specs.Flat.{flat_medium, reader_medium, frame_count, with_frame};
 
-use crate::fault::{Code, Fault, device_fault};
+use crate::fault::Fault;
 use crate::flat_reader::FlatReader;
 use crate::frame::{count_sectors, put_frame, sector_in};
 use crate::reading::{ReadingDevice, WritingDevice};
@@ -54,14 +54,14 @@ impl FlatImage {
     }
 
     fn sector_at(&self, n: u16) -> Sector
-        requires { n < frame_count self.now.bytes.items }
+        requires { n < length (flat_medium self.now).sectors }
         ensures { result ≡ slice_index_or (flat_medium self.now).sectors n blank }
     {
         sector_in(self.bytes.as_slice(), n)
     }
 
     fn put_sector(&mut self, n: u16, sector: &Sector)
-        requires { n < frame_count self.old.bytes.items }
+        requires { n < length (flat_medium self.old).sectors }
         ensures after { flat_medium self.new ≡ wrote (flat_medium self.old) n sector.now }
         ensures bytes { self.new.bytes.items ≡ with_frame self.old.bytes.items n sector.now }
     {
@@ -90,12 +90,7 @@ impl ReadingDevice for FlatImage {
         ensures same { flat_medium self.new ≡ flat_medium self.old }
         ensures bytes { self.new.bytes.items ≡ self.old.bytes.items }
     {
-        if n >= self.count() {
-            return Err(device_fault(Code::InvalidOperation));
-        }
-        if self.door {
-            return Err(device_fault(Code::NotReady));
-        }
+        self.check_read(n)?;
         Ok(self.sector_at(n))
     }
 }
@@ -111,15 +106,7 @@ impl WritingDevice for FlatImage {
         ensures after { flat_medium self.new ≡ (if is_ok result then wrote (flat_medium self.old) n sector.now else flat_medium self.old) }
         ensures bytes { self.new.bytes.items ≡ (if is_ok result then with_frame self.old.bytes.items n sector.now else self.old.bytes.items) }
     {
-        if n >= self.count() {
-            return Err(device_fault(Code::InvalidOperation));
-        }
-        if self.door {
-            return Err(device_fault(Code::NotReady));
-        }
-        if self.tab {
-            return Err(device_fault(Code::Protected));
-        }
+        self.check_write(n)?;
         self.put_sector(n, sector);
         Ok(())
     }

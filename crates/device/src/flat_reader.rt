@@ -2,7 +2,7 @@
 ghost use Rattle.std.specs.Prelude.{◌≡◌};
 ghost use Rattle.device.specs.Flat.{reader_medium};
 
-use crate::fault::{Code, Fault, device_fault};
+use crate::fault::Fault;
 use crate::frame::{count_sectors, sector_in};
 use crate::reading::ReadingDevice;
 use crate::sector::Sector;
@@ -33,9 +33,7 @@ impl<'a> ReadingDevice for FlatReader<'a> {
     }
 
     fn read(&mut self, n: u16) -> Result<Sector, Fault> {
-        if n >= count_sectors(self.bytes) {
-            return Err(device_fault(Code::InvalidOperation));
-        }
+        self.check_read(n)?;
         Ok(sector_in(self.bytes, n))
     }
 }

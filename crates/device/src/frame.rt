@@ -12,7 +12,7 @@ pub(crate) fn count_frames(bytes: &[u8]) -> u16
     ensures { result ≡ frame_count bytes.now }
 {
     let whole = bytes.len() / 132;
-    if whole < 65535 { whole as u16 } else { 65535 }
+    whole.min(65535) as u16
 }
 
 // As many sectors as the frames make.
@@ -26,7 +26,7 @@ pub(crate) fn count_sectors(bytes: &[u8]) -> u16
 
 // Sector n of those.
 pub(crate) fn sector_in(bytes: &[u8], n: u16) -> Sector
-    requires { n < frame_count bytes.now }
+    requires { n < length (frames bytes.now) }
     ensures { result ≡ slice_index_or (frames bytes.now) n blank }
 {
     frame_at(bytes, n as usize)
@@ -62,12 +62,9 @@ pub(crate) fn put_frame(bytes: &mut [u8], n: usize, sector: &Sector)
     ensures whole { WellFormed sector.now }
 {
     let start = 132 * n;
-    let links = [
-        (sector.back % 256) as u8,
-        (sector.back / 256) as u8,
-        (sector.forward % 256) as u8,
-        (sector.forward / 256) as u8,
-    ];
+    let [back_low, back_high] = sector.back.to_le_bytes();
+    let [forward_low, forward_high] = sector.forward.to_le_bytes();
+    let links = [back_low, back_high, forward_low, forward_high];
     put_data(bytes, start, &sector.bytes);
     put_data(bytes, start + 128, &links);
 }

@@ -4,7 +4,7 @@ ghost use Rattle.std.specs.List.{AllByRecursion};
 ghost use Rattle.device.specs.Device.{WellFormed, fetched, stored, wrote, with_door, with_tab};
 ghost use Rattle.device.specs.Joined.{joined_medium, wrote_first, wrote_second};
 
-use crate::fault::{Code, Fault, device_fault};
+use crate::fault::Fault;
 use crate::reading::{ReadingDevice, WritingDevice};
 use crate::sector::Sector;
 
@@ -18,11 +18,7 @@ pub struct JoinedPair<F, S> {
 fn cut_sum(first: u16, second: u16) -> u16
     ensures { result ≡ min 65535 (first + second) }
 {
-    if second < 65535 - first {
-        first + second
-    } else {
-        65535
-    }
+    first.saturating_add(second)
 }
 
 impl<F: WritingDevice, S: WritingDevice> JoinedPair<F, S> {
@@ -106,12 +102,7 @@ impl<F: WritingDevice, S: WritingDevice> ReadingDevice for JoinedPair<F, S> {
         ensures first { F.ReadingDevice.medium self.new.first ≡ F.ReadingDevice.medium self.old.first }
         ensures second { S.ReadingDevice.medium self.new.second ≡ S.ReadingDevice.medium self.old.second }
     {
-        if n >= self.count() {
-            return Err(device_fault(Code::InvalidOperation));
-        }
-        if self.door_open() {
-            return Err(device_fault(Code::NotReady));
-        }
+        self.check_read(n)?;
         self.read_part(n)
     }
 }
@@ -128,15 +119,7 @@ impl<F: WritingDevice, S: WritingDevice> WritingDevice for JoinedPair<F, S> {
         ensures first { F.ReadingDevice.medium self.new.first ≡ (if is_ok result then wrote_first (F.ReadingDevice.medium self.old.first) n sector.now else F.ReadingDevice.medium self.old.first) }
         ensures second { S.ReadingDevice.medium self.new.second ≡ (if is_ok result then wrote_second (F.ReadingDevice.medium self.old.first) (S.ReadingDevice.medium self.old.second) n sector.now else S.ReadingDevice.medium self.old.second) }
     {
-        if n >= self.count() {
-            return Err(device_fault(Code::InvalidOperation));
-        }
-        if self.door_open() {
-            return Err(device_fault(Code::NotReady));
-        }
-        if self.tab_on() {
-            return Err(device_fault(Code::Protected));
-        }
+        self.check_write(n)?;
         self.write_part(n, sector)
     }
 

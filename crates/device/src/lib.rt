@@ -10,7 +10,7 @@ mod reading;
 mod sector;
 mod skewed;
 
-pub use fault::{Code, Fault, Layer};
+pub use fault::{Code, Fault, Layer, NO_SECTOR};
 pub use flat_image::FlatImage;
 pub use flat_reader::FlatReader;
 pub use joined_pair::JoinedPair;
