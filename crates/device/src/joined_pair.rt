@@ -14,13 +14,6 @@ pub struct JoinedPair<F, S> {
     second: S,
 }
 
-// The count has 16 bits: sectors past it are cut off.
-fn cut_sum(first: u16, second: u16) -> u16
-    ensures { result ≡ min 65535 (first + second) }
-{
-    first.saturating_add(second)
-}
-
 impl<F: WritingDevice, S: WritingDevice> JoinedPair<F, S> {
     pub fn new(first: F, second: S) -> JoinedPair<F, S>
         ensures first { result.first ≡ first }
@@ -35,14 +28,6 @@ impl<F: WritingDevice, S: WritingDevice> JoinedPair<F, S> {
     {
         let JoinedPair { first, second } = self;
         (first, second)
-    }
-
-    fn count_both(&self) -> u16
-        ensures value { result ≡ length (joined_medium F.ReadingDevice S.ReadingDevice self.now).sectors }
-        ensures whole { AllByRecursion WellFormed (joined_medium F.ReadingDevice S.ReadingDevice self.now).sectors }
-        ensures cut { result ≡ min 65535 (length (F.ReadingDevice.medium self.now.first).sectors + length (S.ReadingDevice.medium self.now.second).sectors) }
-    {
-        cut_sum(self.first.count(), self.second.count())
     }
 
     // Asks the part that has sector n.
@@ -87,7 +72,8 @@ impl<F: WritingDevice, S: WritingDevice> ReadingDevice for JoinedPair<F, S> {
         ensures whole { AllByRecursion WellFormed (joined_medium F.ReadingDevice S.ReadingDevice self.now).sectors }
         ensures cut { result ≡ min 65535 (length (F.ReadingDevice.medium self.now.first).sectors + length (S.ReadingDevice.medium self.now.second).sectors) }
     {
-        self.count_both()
+        // Sectors past what 16 bits can count are cut off.
+        self.first.count().saturating_add(self.second.count())
     }
 
     // One open door refuses the sectors of both.

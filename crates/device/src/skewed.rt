@@ -62,20 +62,12 @@ impl<D> Skewed<D> {
 }
 
 impl<D: ReadingDevice> Skewed<D> {
-    fn size(&self) -> u16
-        ensures value { result ≡ length (skewed_medium (lower_medium D.ReadingDevice self.now)).sectors }
-        ensures whole { AllByRecursion WellFormed (skewed_medium (lower_medium D.ReadingDevice self.now)).sectors }
-        ensures lower { result ≡ length (lower_medium D.ReadingDevice self.now).sectors }
-    {
-        self.lower.count()
-    }
-
     // Where sector n lies on the lower device.
     fn place_of(&self, n: u16) -> u16
         ensures value { result ≡ skewed (length (lower_medium D.ReadingDevice self.now).sectors) n }
         ensures stands { StandsFor (lower_medium D.ReadingDevice self.now) n result }
     {
-        place(self.size(), n)
+        place(self.lower.count(), n)
     }
 }
 
@@ -87,7 +79,7 @@ impl<D: ReadingDevice> ReadingDevice for Skewed<D> {
         ensures whole { AllByRecursion WellFormed (skewed_medium (lower_medium D.ReadingDevice self.now)).sectors }
         ensures lower { result ≡ length (lower_medium D.ReadingDevice self.now).sectors }
     {
-        self.size()
+        self.lower.count()
     }
 
     fn door_open(&self) -> bool {

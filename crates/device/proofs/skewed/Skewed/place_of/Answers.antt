@@ -7,5 +7,5 @@ pub returns : goal.returns
 returns g c =
     let m = g.D.ReadingDevice.medium c.args.self.now.lower in
     let n = c.args.n in
-    let at : c.place.result ≡ skewed (length m.sectors) n = c.place.ensures ∙ ap (λ size. skewed size n) c.size.ensures.lower in
+    let at : c.place.result ≡ skewed (length m.sectors) n = c.place.ensures ∙ ap (λ size. skewed size n) c.count.ensures.value in
     record { value = at; stands = stands_for m n c.place.result at }

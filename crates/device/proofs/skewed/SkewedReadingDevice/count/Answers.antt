@@ -1,6 +1,6 @@
 use Rattle.std.proofs.Common.{sym, ◌∙◌}
 use Rattle.device.proofs.SkewFacts.{length_skewed, whole_skewed}
-use Rattle.device.proofs.skewed.Skewed.size.Goals as goal
+use Rattle.device.proofs.skewed.SkewedReadingDevice.count.Goals as goal
 
 pub returns : goal.returns
 returns g c =
