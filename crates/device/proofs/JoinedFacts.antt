@@ -38,34 +38,15 @@ module _ (a b : List Sector) where
     set_second : (s : Sector) → length a ≤ n → joined_sectors a (set b (n - length a) s) ≡ set (joined_sectors a b) n s
     set_second s h = ap (take 65535) (sym (set-append_right a b (length a) n s refl h)) ∙ take-set-lt 65535 (a ++ b) n s below
 
--- both parts before and after a write of sector n
-pub record Changed (a b : Medium) (n : ℕ) (s : Sector) (ok : Bool) (a' b' : Medium) : Type 0 where
-  pub after : joined a' b' ≡ cond ok (wrote (joined a b) n s) (joined a b)
-  pub first : a' ≡ cond ok (wrote_first a n s) a
-  pub second : b' ≡ cond ok (wrote_second a b n s) b
-
+-- both after a write of sector n by the part that has it
 module _ (a b : Medium) (n : ℕ) (s : Sector) (within : n < length (joined a b).sectors) where
-  -- by the first part, which has the sector
-  pub changed_first : n < length a.sectors → (ok : Bool) (a' : Medium) → a' ≡ cond ok (wrote a n s) a → Changed a b n s ok a' b
-  changed_first h true a' e =
-      let t = lt-ltb n (length a.sectors) h in
-      record {
-        after = ap (λ m. joined m b) e ∙ ap (λ ss. record { sectors = ss; door = a.door || b.door; tab = a.tab || b.tab }) (set_first a.sectors b.sectors n within s h);
-        first = e ∙ sym (ap (λ x. cond x (wrote a n s) a) t);
-        second = sym (ap (λ x. cond x b (wrote b (n - length a.sectors) s)) t);
-      }
-  changed_first h false a' e = record { after = ap (λ m. joined m b) e; first = e; second = refl }
+  pub changed_first : n < length a.sectors → (ok : Bool) (a' : Medium) → a' ≡ cond ok (wrote a n s) a → joined a' b ≡ cond ok (wrote (joined a b) n s) (joined a b)
+  changed_first h true a' e = ap (λ m. joined m b) e ∙ ap (λ ss. record { sectors = ss; door = a.door || b.door; tab = a.tab || b.tab }) (set_first a.sectors b.sectors n within s h)
+  changed_first h false a' e = ap (λ m. joined m b) e
 
-  -- by the second part, which has it
-  pub changed_second : length a.sectors ≤ n → (ok : Bool) (b' : Medium) → b' ≡ cond ok (wrote b (n - length a.sectors) s) b → Changed a b n s ok a b'
-  changed_second h true b' e =
-      let t = le-ltb n (length a.sectors) h in
-      record {
-        after = ap (λ m. joined a m) e ∙ ap (λ ss. record { sectors = ss; door = a.door || b.door; tab = a.tab || b.tab }) (set_second a.sectors b.sectors n within s h);
-        first = sym (ap (λ x. cond x (wrote a n s) a) t);
-        second = e ∙ sym (ap (λ x. cond x b (wrote b (n - length a.sectors) s)) t);
-      }
-  changed_second h false b' e = record { after = ap (λ m. joined a m) e; first = refl; second = e }
+  pub changed_second : length a.sectors ≤ n → (ok : Bool) (b' : Medium) → b' ≡ cond ok (wrote b (n - length a.sectors) s) b → joined a b' ≡ cond ok (wrote (joined a b) n s) (joined a b)
+  changed_second h true b' e = ap (λ m. joined a m) e ∙ ap (λ ss. record { sectors = ss; door = a.door || b.door; tab = a.tab || b.tab }) (set_second a.sectors b.sectors n within s h)
+  changed_second h false b' e = ap (λ m. joined a m) e
 
 -- an answer of the one part that has sector n is the answer of both, where both doors are closed
 module _ (a b : Medium) (n : ℕ) (within : n < length (joined a b).sectors) (closed : (joined a b).door ≡ false) where

@@ -55,7 +55,7 @@ fn examine_image(rt: &HostRuntime, path: &str, image: &FlatImage) -> anyhow::Res
     let mut reader = image.reader();
     let answer = examine(&mut reader);
     print_answer(rt, path, reader.count(), &answer)?;
-    let is_sound = answer.code.number() == Code::Done.number();
+    let is_sound = answer.code == Code::Done;
     if is_sound {
         print_files(rt, &mut reader)?;
     }

@@ -4,8 +4,8 @@ use std::test::Fail;
 
 fn number<T: Drop>(answer: Result<T, Fault>) -> u8 {
     match answer {
-        Ok(_) => Code::Done.number(),
-        Err(fault) => fault.code.number(),
+        Ok(_) => u8::from(Code::Done),
+        Err(fault) => u8::from(fault.code),
     }
 }
 

@@ -15,7 +15,7 @@ fn format_code(heap: Global, sectors: usize, id: &[u8]) -> Result<u8, Fail> {
     let mut drive = Drive::new(blank(heap, sectors)?, BitMap::new());
     let answer = drive.format(id);
     let _ = drive.release();
-    Ok(answer.code.number())
+    Ok(u8::from(answer.code))
 }
 
 #[test]
@@ -47,8 +47,8 @@ fn status_tells_the_numbers_of_a_new_disk(rt: HostRuntime) -> Result<(), Fail> {
     let _ = drive.door(true);
     let (after, usage) = drive.status();
     let _ = drive.release();
-    assert_eq!(rt; before.code.number(), 0xE0);
-    assert_eq!(rt; after.code.number(), 0x80);
+    assert_eq!(rt; u8::from(before.code), 0xE0);
+    assert_eq!(rt; u8::from(after.code), 0x80);
     assert_eq!(rt; usage.free, 28);
     assert_eq!(rt; usage.used, 36);
     assert_eq!(rt; usage.files, 0);

@@ -18,8 +18,8 @@ fn zeros(heap: Global, sectors: u8) -> Result<FlatImage, Fail> {
 
 fn number<T: Drop>(answer: Result<T, Fault>) -> u8 {
     match answer {
-        Ok(_) => Code::Done.number(),
-        Err(fault) => fault.code.number(),
+        Ok(_) => u8::from(Code::Done),
+        Err(fault) => u8::from(fault.code),
     }
 }
 
@@ -79,8 +79,8 @@ fn a_drive_over_a_pair(rt: HostRuntime) -> Result<(), Fail> {
     let formatted = drive.format(b"EXAM 1");
     let (answer, usage) = drive.status();
     let _ = drive.release();
-    assert_eq!(rt; formatted.code.number(), 0x80);
-    assert_eq!(rt; answer.code.number(), 0x80);
+    assert_eq!(rt; u8::from(formatted.code), 0x80);
+    assert_eq!(rt; u8::from(answer.code), 0x80);
     assert_eq!(rt; usage.free, 28);
     assert_eq!(rt; usage.used, 36);
     assert_eq!(rt; usage.files, 0);

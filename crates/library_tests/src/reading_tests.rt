@@ -16,16 +16,16 @@ fn formatted_image(heap: Global) -> Result<FlatImage, Fail> {
     let answer = drive.format(b"EXAM 1");
     let image = drive.release();
     expect(
-        answer.code.number() == Code::Done.number(),
+        answer.code == Code::Done,
         "FORMAT is refused",
     )?;
     Ok(image)
 }
 
 fn check_answer(answer: Answer, code: u8, layer: u8, sector: u16) -> Result<(), Fail> {
-    expect(answer.code.number() == code, "another code")?;
+    expect(u8::from(answer.code) == code, "another code")?;
     expect(answer.length == 0, "a length")?;
-    expect(answer.layer.number() == layer, "another layer")?;
+    expect(u8::from(answer.layer) == layer, "another layer")?;
     expect(answer.sector == sector, "another sector")
 }
 

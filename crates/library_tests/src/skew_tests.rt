@@ -51,7 +51,7 @@ fn check_size(heap: Global, sectors: u16) -> Result<(), Fail> {
     check_read_back(&mut device, sectors)?;
     match device.read(sectors) {
         Ok(_) => return Err(Fail::new("a sector past the end is read")),
-        Err(fault) => expect(fault.code.number() == 0xC1, "another fault")?,
+        Err(fault) => expect(u8::from(fault.code) == 0xC1, "another fault")?,
     }
     check_below(&mut device.into_lower(), sectors)
 }
@@ -89,7 +89,7 @@ fn a_drive_works_over_a_skewed_disk(rt: HostRuntime) -> Result<(), Fail> {
     let answer = drive.format(b"EXAM 1");
     let (_, usage) = drive.status();
     let mut device = drive.release();
-    assert_eq!(rt; answer.code.number(), 0x80);
+    assert_eq!(rt; u8::from(answer.code), 0x80);
     assert_eq!(rt; usage.free, 28);
     assert_eq!(rt; usage.used, 36);
     assert_eq!(rt; usage.files, 0);

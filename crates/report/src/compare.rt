@@ -7,9 +7,9 @@ use drive::{Answer, Exchange, Reported};
 fn same_answer(a: &Answer, b: &Answer) -> bool
     ensures { result ≡ same_answer a.now b.now }
 {
-    a.code.number() == b.code.number()
+    u8::from(a.code) == u8::from(b.code)
         && a.length == b.length
-        && a.layer.number() == b.layer.number()
+        && u8::from(a.layer) == u8::from(b.layer)
         && a.sector == b.sector
 }
 

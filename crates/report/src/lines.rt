@@ -28,8 +28,8 @@ fn numbers_line(
 pub fn answer_line(heap: Global, answer: &Answer) -> Result<String, AllocError>
     ensures { IfOk result (λ s. string_bytes s ≡ answer_text answer.now) }
 {
-    let code = answer.code.number();
-    let layer = answer.layer.number();
+    let code = u8::from(answer.code);
+    let layer = u8::from(answer.layer);
     numbers_line(heap, code, answer.length, layer, answer.sector)
 }
 
