@@ -2,6 +2,7 @@
 use Rattle.std.proofs.Common.{◌≡◌, ℕ, ◌+◌, ◌<◌, ◌≤◌, true, false, cond, eqb, List, [], ◌∷◌, ◌++◌, length, sym, refl, ap, ◌∙◌, ⊎_elim, arith}
 use Rattle.std.proofs.lemmas.Bool.{cases_eq, cases_lt, cases_Bool, eq-eqb, cond-true, cond-false, ne_eqb}
 use Rattle.std.proofs.lemmas.Bool.Decides.{nat_tests}
+use Rattle.std.proofs.lemmas.List.Folds.{list_any-append}
 use Rattle.freespace.specs.Sets.{counted}
 use Rattle.freespace.proofs.Counts.{counted_none, counted_same, counted_added}
 use Rattle.plain.specs.Members.{listed}
@@ -10,12 +11,11 @@ pub none_listed : (xs : List ℕ) → length xs ≡ 0 → (n : ℕ) → listed x
 none_listed [] e n = refl
 none_listed (x ∷ xs) e n = absurd (omega arith)
 
-listed_push : (xs : List ℕ) (x m : ℕ) → listed (xs ++ x ∷ []) m ≡ cond (eqb m x) true (listed xs m)
-listed_push [] x m = refl
-listed_push (y ∷ ys) x m = let h = listed_push ys x m in grind (arith, nat_tests)
+listed_more : (xs : List ℕ) (x m : ℕ) → listed (x ∷ xs) m ≡ cond (eqb m x) true (listed xs m)
+listed_more xs x m = grind (arith, nat_tests)
 
 pub listed_pushed : (xs ys : List ℕ) (x : ℕ) → ys ≡ xs ++ x ∷ [] → (m : ℕ) → listed ys m ≡ cond (eqb m x) true (listed xs m)
-listed_pushed xs ys x is m = ap (λ zs. listed zs m) is ∙ listed_push xs x m
+listed_pushed xs ys x is m = let e = ap (λ zs. listed zs m) is ∙ list_any-append (λ k. eqb k m) xs (x ∷ []) in grind (arith, nat_tests)
 
 listed_again : (xs : List ℕ) (x : ℕ) → listed xs x ≡ true → (m : ℕ) → cond (eqb m x) true (listed xs m) ≡ listed xs m
 listed_again xs x on m =
@@ -30,12 +30,12 @@ counted_listed [] s = let e = counted_none (listed []) s (λ n. refl) in omega a
 counted_listed (x ∷ xs) s =
     let rest = counted_listed xs s in
     ⊎_elim
-    (λ (on : listed xs x ≡ true). let e = counted_same (listed xs) (listed (x ∷ xs)) s (λ n l. listed_again xs x on n) in omega arith)
+    (λ (on : listed xs x ≡ true). let e = counted_same (listed xs) (listed (x ∷ xs)) s (λ n l. listed_more xs x n ∙ listed_again xs x on n) in omega arith)
     (λ (off : listed xs x ≡ false).
     ⊎_elim
-    (λ (l : x < s). let e = counted_added (listed xs) (listed (x ∷ xs)) x s (λ m. refl) l off in omega arith)
+    (λ (l : x < s). let e = counted_added (listed xs) (listed (x ∷ xs)) x s (listed_more xs x) l off in omega arith)
     (λ (l : s ≤ x).
-    let e = counted_same (listed xs) (listed (x ∷ xs)) s (λ n k. cond-false (eqb n x) true (listed xs n) (ne_eqb n x (λ q. omega arith))) in
+    let e = counted_same (listed xs) (listed (x ∷ xs)) s (λ n k. listed_more xs x n ∙ cond-false (eqb n x) true (listed xs n) (ne_eqb n x (λ q. omega arith))) in
     omega arith)
     (cases_lt x s))
     (cases_Bool (listed xs x))

@@ -82,7 +82,7 @@ impl SectorAllocator for NumberList {
     }
 
     fn give(&mut self, n: u16) -> bool {
-        if n >= self.sectors || holds(self.members.as_slice(), n) {
+        if n >= self.sectors || self.members.contains(&n) {
             return false;
         }
         self.insert(n);
@@ -97,21 +97,10 @@ impl SectorAllocator for NumberList {
     }
 
     fn contains(&self, n: u16) -> bool {
-        holds(self.members.as_slice(), n)
+        self.members.contains(&n)
     }
 
     fn count(&self) -> u16 {
         self.members.len() as u16
     }
-}
-
-fn holds(members: &[u16], n: u16) -> bool
-    ensures { result ≡ listed members.now n }
-{
-    for m in members {
-        if *m == n {
-            return true;
-        }
-    }
-    false
 }
