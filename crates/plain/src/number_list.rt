@@ -29,13 +29,6 @@ impl NumberList {
         })
     }
 
-    fn is_empty(&self) -> bool
-        ensures none { result ≡ true → (n : ℕ) → listed self.now.members.items n ≡ false }
-        ensures some { result ≡ false → 0 < vec_len self.now.members }
-    {
-        self.members.is_empty()
-    }
-
     fn restart(&mut self, sectors: u16)
         requires { sectors ≤ 2464 }
         ensures spans { self.new.sectors ≡ sectors }
@@ -52,15 +45,6 @@ impl NumberList {
         ensures after { (m : ℕ) → listed self.new.members.items m ≡ (if nat_eq m n then true else listed self.old.members.items m) }
     {
         self.members.push_reserved(n);
-    }
-
-    fn remove_last(&mut self) -> u16
-        requires { 0 < vec_len self.old.members }
-        ensures member { listed self.old.members.items result ≡ true }
-        ensures spans { self.new.sectors ≡ self.old.sectors }
-        ensures after { (m : ℕ) → listed self.new.members.items m ≡ (if nat_eq m result then false else listed self.old.members.items m) }
-    {
-        self.members.take_last()
     }
 }
 
@@ -90,10 +74,7 @@ impl SectorAllocator for NumberList {
     }
 
     fn remove_one(&mut self) -> Option<u16> {
-        if self.is_empty() {
-            return None;
-        }
-        Some(self.remove_last())
+        self.members.pop()
     }
 
     fn contains(&self, n: u16) -> bool {

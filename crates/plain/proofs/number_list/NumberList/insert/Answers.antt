@@ -29,6 +29,3 @@ invariant_of-self c =
       below = changed_below old new n true is k.sectors c.requires.0 k.below;
       tally = omega (arith, k.tally, c.push_reserved.ensures.len);
     }
-
-pub returns : goal.returns
-returns c = record { spans = refl; after = listed_pushed c.args.self.now.members.items _ c.args.n c.push_reserved.ensures.items }
