@@ -28,24 +28,6 @@ impl NumberList {
             sectors: 0,
         })
     }
-
-    fn restart(&mut self, sectors: u16)
-        requires { sectors ≤ 2464 }
-        ensures spans { self.new.sectors ≡ sectors }
-        ensures after { (n : ℕ) → listed self.new.members.items n ≡ false }
-    {
-        self.members.clear();
-        self.sectors = sectors;
-    }
-
-    // Adds a number that is not there. Its place was reserved when the list was made.
-    fn insert(&mut self, n: u16)
-        requires { (n < self.old.sectors) × (listed self.old.members.items n ≡ false) }
-        ensures spans { self.new.sectors ≡ self.old.sectors }
-        ensures after { (m : ℕ) → listed self.new.members.items m ≡ (if nat_eq m n then true else listed self.old.members.items m) }
-    {
-        self.members.push_reserved(n);
-    }
 }
 
 impl SectorAllocator for NumberList {
@@ -61,7 +43,8 @@ impl SectorAllocator for NumberList {
         if sectors > 2464 {
             return false;
         }
-        self.restart(sectors);
+        self.members.clear();
+        self.sectors = sectors;
         true
     }
 
@@ -69,7 +52,8 @@ impl SectorAllocator for NumberList {
         if n >= self.sectors || self.members.contains(&n) {
             return false;
         }
-        self.insert(n);
+        // Its place was reserved when the list was made.
+        self.members.push_reserved(n);
         true
     }
 
