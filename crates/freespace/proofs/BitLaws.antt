@@ -1,8 +1,8 @@
 -- Bits of bytes.
-use Rattle.std.proofs.Common.{◌≡◌, ℕ, zero, suc, ◌+◌, ◌-◌, ◌*◌, ◌/◌, ◌%◌, ◌^◌, ◌<◌, ◌≤◌, Bool, true, false, cond, eqb, List, length, get_or, set, replicate, sym, refl, ap, ◌∙◌, ⊎_elim, arith, get_or-set_other, get_or-set_same}
+use Rattle.std.proofs.Common.{◌≡◌, ℕ, zero, suc, ◌+◌, ◌-◌, ◌*◌, ◌/◌, ◌%◌, ◌^◌, ◌<◌, ◌≤◌, Bool, true, false, cond, eqb, List, length, get_or, set, sym, refl, ap, ◌∙◌, ⊎_elim, arith, get_or-set_other, get_or-set_same}
 use native.Mathlib.Nat.{div-eq_of_lt, pow-succ'}
 use lib.Bits.{bit_or, bit_xor, or_zero_r, xor_zero_r}
-use Rattle.std.proofs.lemmas.Nat.{or_shr, or_mod, xor_shr, xor_mod, pow_pos, pow-add, pow_below, shl-shr}
+use Rattle.std.proofs.lemmas.Nat.{or_shr, or_mod, xor_shr, xor_mod, pow-add, pow_below, shl-shr}
 use Rattle.std.proofs.lemmas.Bool.{cases_eq, cases_lt, eq-eqb, ne_eqb, cond-true, cond-false}
 use Rattle.freespace.specs.Bits.{bit_at, bit_of}
 
@@ -74,14 +74,3 @@ bits_set bs n b v l h m =
     ap (λ x. bit_at x (m % 8)) (get_or-set_other bs (n / 8) (m / 8) b 0 nq)
     ∙ sym (cond-false (eqb m n) v (bit_of bs m) (ne_eqb m n (λ e. nq (ap (λ x. x / 8) e)))))
     (cases_eq (m / 8) (n / 8))
-
-pub get_or_zeros : (k i : ℕ) → ◌≡◌ {A = ℕ} (get_or (replicate k 0) i 0) 0
-get_or_zeros zero i = refl
-get_or_zeros (suc k) zero = refl
-get_or_zeros (suc k) (suc i) = get_or_zeros k i
-
-zero_bit : (j : ℕ) → bit_at 0 j ≡ false
-zero_bit j = let e : 0 / 2 ^ j ≡ 0 = div-eq_of_lt (pow_pos j) in ap (λ x. eqb (x % 2) 1) e
-
-pub no_bits : (k n : ℕ) → bit_of (replicate k 0) n ≡ false
-no_bits k n = ap (λ x. bit_at x (n % 8)) (get_or_zeros k (n / 8)) ∙ zero_bit (n % 8)

@@ -1,3 +1,4 @@
 mod BitLaws
 pub mod Counts
+mod Filled
 mod LinkLaws

@@ -1,6 +1,6 @@
 ghost use Rattle.std.specs.Prelude.{◌≡◌, ℕ, ◌<◌, ◌≤◌, true, false, length, if◌then◌else◌, nat_eq};
 ghost use Rattle.freespace.specs.Bits.{bit_of};
-ghost use Rattle.freespace.specs.Sets.{counted};
+ghost use Rattle.freespace.specs.Sets.{counted, Picks};
 
 use crate::allocator::SectorAllocator;
 use crate::bits::{bit, no_bytes, with_bit, without_bit};
@@ -37,20 +37,11 @@ impl BitMap {
         bit(self.bits[(n / 8) as usize], n % 8)
     }
 
-    // The least member from low up to high, or high if there is none.
-    pub(crate) fn first_in(&self, low: u16, high: u16) -> u16
-        requires { (low ≤ high) × (high ≤ self.now.sectors) }
-        ensures from { low ≤ result }
-        ensures within { result ≤ high }
-        ensures before { (n : ℕ) → low ≤ n → n < result → bit_of self.now.bits n ≡ false }
-        ensures found { result < high → bit_of self.now.bits result ≡ true }
+    // The least member.
+    fn first(&self) -> Option<u16>
+        ensures { Picks result (bit_of self.now.bits) }
     {
-        for n in low..high {
-            if self.has_bit(n) {
-                return n;
-            }
-        }
-        high
+        (0..self.sectors).find(|n| self.has_bit(*n))
     }
 
     // Adds a number that is not there.
@@ -104,10 +95,7 @@ impl SectorAllocator for BitMap {
     }
 
     fn remove_one(&mut self) -> Option<u16> {
-        let n = self.first_in(0, self.sectors);
-        if n >= self.sectors {
-            return None;
-        }
+        let n = self.first()?;
         self.remove(n);
         Some(n)
     }

@@ -1,7 +1,7 @@
 ghost use Rattle.std.specs.Prelude.{◌≡◌, ℕ, ◌+◌, ◌<◌, ◌≤◌, true, false, length, IfSome, if◌then◌else◌, nat_eq};
 ghost use Rattle.freespace.specs.Links.{link, linked, Ascends, Within, LeadsOn, PassesNone};
 ghost use Rattle.freespace.specs.Sets.{counted, without, Picks};
-ghost use Rattle.std.proofs.Common.{rules, arith};
+ghost use Rattle.std.proofs.Common.{rules};
 
 use crate::allocator::SectorAllocator;
 
@@ -106,9 +106,9 @@ impl SectorAllocator for FreeList {
 
     ghost span = { λ k. k.sectors };
 
-    ghost below = { first_of (Prim.search rules, Prim.grind (arith, Self.row.coded.inj)) };
+    ghost below = { Prim.search rules };
 
-    ghost small = { first_of (Prim.search rules, Prim.grind (arith, Self.row.coded.inj)) };
+    ghost small = { λ k. k.small };
 
     fn clear(&mut self, sectors: u16) -> bool {
         if sectors > 2464 {

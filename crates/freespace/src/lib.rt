@@ -7,11 +7,9 @@ mod bit_map;
 mod bits;
 mod fill;
 mod free_list;
-mod unused;
 
 pub use allocated::{AllocatedSector, Unstored};
 pub use allocator::SectorAllocator;
 pub use bit_map::BitMap;
-pub use fill::fill_from;
+pub use fill::{fill_from, fill_unused};
 pub use free_list::FreeList;
-pub use unused::fill_unused;

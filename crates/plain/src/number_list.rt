@@ -28,40 +28,6 @@ impl NumberList {
             sectors: 0,
         })
     }
-
-    fn is_empty(&self) -> bool
-        ensures none { result ≡ true → (n : ℕ) → listed self.now.members.items n ≡ false }
-        ensures some { result ≡ false → 0 < vec_len self.now.members }
-    {
-        self.members.is_empty()
-    }
-
-    fn restart(&mut self, sectors: u16)
-        requires { sectors ≤ 2464 }
-        ensures spans { self.new.sectors ≡ sectors }
-        ensures after { (n : ℕ) → listed self.new.members.items n ≡ false }
-    {
-        self.members.clear();
-        self.sectors = sectors;
-    }
-
-    // Adds a number that is not there. Its place was reserved when the list was made.
-    fn insert(&mut self, n: u16)
-        requires { (n < self.old.sectors) × (listed self.old.members.items n ≡ false) }
-        ensures spans { self.new.sectors ≡ self.old.sectors }
-        ensures after { (m : ℕ) → listed self.new.members.items m ≡ (if nat_eq m n then true else listed self.old.members.items m) }
-    {
-        self.members.push_reserved(n);
-    }
-
-    fn remove_last(&mut self) -> u16
-        requires { 0 < vec_len self.old.members }
-        ensures member { listed self.old.members.items result ≡ true }
-        ensures spans { self.new.sectors ≡ self.old.sectors }
-        ensures after { (m : ℕ) → listed self.new.members.items m ≡ (if nat_eq m result then false else listed self.old.members.items m) }
-    {
-        self.members.take_last()
-    }
 }
 
 impl SectorAllocator for NumberList {
@@ -77,41 +43,29 @@ impl SectorAllocator for NumberList {
         if sectors > 2464 {
             return false;
         }
-        self.restart(sectors);
+        self.members.clear();
+        self.sectors = sectors;
         true
     }
 
     fn give(&mut self, n: u16) -> bool {
-        if n >= self.sectors || holds(self.members.as_slice(), n) {
+        if n >= self.sectors || self.members.contains(&n) {
             return false;
         }
-        self.insert(n);
+        // Its place was reserved when the list was made.
+        self.members.push_reserved(n);
         true
     }
 
     fn remove_one(&mut self) -> Option<u16> {
-        if self.is_empty() {
-            return None;
-        }
-        Some(self.remove_last())
+        self.members.pop()
     }
 
     fn contains(&self, n: u16) -> bool {
-        holds(self.members.as_slice(), n)
+        self.members.contains(&n)
     }
 
     fn count(&self) -> u16 {
         self.members.len() as u16
     }
-}
-
-fn holds(members: &[u16], n: u16) -> bool
-    ensures { result ≡ listed members.now n }
-{
-    for m in members {
-        if *m == n {
-            return true;
-        }
-    }
-    false
 }

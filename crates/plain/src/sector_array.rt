@@ -27,25 +27,19 @@ impl SectorArray {
         }
     }
 
-    fn used(&self) -> u16
-        ensures value { result ≡ length (array_medium self.now).sectors }
-        ensures whole { AllByRecursion WellFormed (array_medium self.now).sectors }
-    {
-        self.sectors.len().min(65535) as u16
-    }
-
     fn sector_at(&self, n: u16) -> Sector
         requires { n < length (array_medium self.now).sectors }
         ensures { result ≡ slice_index_or (array_medium self.now).sectors n blank }
     {
-        copied(&self.sectors[n as usize])
+        let sector = &self.sectors[n as usize];
+        joined(&sector.bytes, sector.back, sector.forward)
     }
 
     fn put_sector(&mut self, n: u16, sector: &Sector)
         requires { n < length (array_medium self.old).sectors }
         ensures { array_medium self.new ≡ wrote (array_medium self.old) n sector.now }
     {
-        self.sectors[n as usize] = copied(sector);
+        self.sectors[n as usize] = joined(&sector.bytes, sector.back, sector.forward);
     }
 }
 
@@ -53,7 +47,7 @@ impl ReadingDevice for SectorArray {
     ghost medium = { array_medium };
 
     fn count(&self) -> u16 {
-        self.used()
+        self.sectors.len().min(65535) as u16
     }
 
     fn door_open(&self) -> bool {
@@ -109,14 +103,8 @@ fn refusal(code: Code) -> Fault
     }
 }
 
-// A copy, and what a device has to know of each of its sectors.
-fn copied(sector: &Sector) -> Sector
-    ensures same { result ≡ sector.now }
-    ensures whole { WellFormed result }
-{
-    joined(&sector.bytes, sector.back, sector.forward)
-}
-
+// A sector of these parts, and what a device has to know of each of its sectors: a slice and a number tell a proof what fits
+// them, and the fields of a struct do not.
 fn joined(bytes: &[u8], back: u16, forward: u16) -> Sector
     requires { length bytes.now ≡ 128 }
     ensures same { result ≡ record { bytes = bytes.entry.now; back = back; forward = forward } }

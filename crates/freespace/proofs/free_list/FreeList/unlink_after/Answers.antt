@@ -1,4 +1,4 @@
-use Rattle.std.proofs.Common.{◌≡◌, ℕ, ◌+◌, ◌-◌, ◌<◌, ◌≤◌, false, ltb, List, set, refl, ap, ◌∙◌, arith, length-set}
+use Rattle.std.proofs.Common.{◌≡◌, ℕ, ◌+◌, ◌-◌, ◌<◌, ◌≤◌, false, List, set, ◌∙◌, arith, length-set}
 use Rattle.freespace.specs.declared.free_list.FreeList.{FreeList}
 use Rattle.freespace.specs.Links.{link, linked}
 use Rattle.freespace.specs.Sets.{counted}
@@ -39,16 +39,4 @@ invariant_of-self c =
       leads = ch.leads;
       passes = ch.passes;
       tally = omega (arith, tallied k p c.requires.0 c.requires.1);
-    }
-
-pub returns : goal.returns
-returns c =
-    let k = c.args.self.now in
-    let p = c.args.before in
-    let d = done k p c.requires.0 c.requires.1 in
-    record {
-      member = d.was;
-      passed = λ m l h. ap (ltb 0) (k.passes p (m + 1) (omega arith, omega arith));
-      spans = refl;
-      after = d.is;
     }

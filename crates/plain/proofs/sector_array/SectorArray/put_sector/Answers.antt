@@ -14,5 +14,5 @@ returns c =
     let ss = self.sectors.items in
     let n = c.args.n in
     ap {B = Medium} (λ (xs : List Sector). record { sectors = xs; door = self.door; tab = self.tab })
-    (sectors_set ss n c.copied.result c.requires c.copied.ensures.whole
-    ∙ ap (λ (s : Sector). set (sectors_of ss) n s) c.copied.ensures.same)
+    (sectors_set ss n c.joined.result c.requires c.joined.ensures.whole
+    ∙ ap (λ (s : Sector). set (sectors_of ss) n s) c.joined.ensures.same)
