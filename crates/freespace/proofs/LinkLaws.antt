@@ -1,14 +1,7 @@
 -- Laws of an ascending chain: f is the table, as a function of the place.
 use Rattle.std.proofs.Common.{◌≡◌, ℕ, ◌+◌, ◌-◌, ◌<◌, ◌≤◌, Bool, true, false, cond, not, eqb, ltb, ◌⊎◌, List, length, set, sym, refl, ap, ◌∙◌, inl, inr, ⊎_elim, arith, length-set, get_or-set_other, get_or-set_same}
 use Rattle.std.proofs.lemmas.Bool.{cases_eq, cases_lt, eq-eqb, ne_eqb, cond-true, cond-false, lt-ltb}
-use Rattle.freespace.specs.Links.{link, linked, Ascends, Within, LeadsOn, PassesNone}
-
-pub record Chained (f : ℕ → ℕ) (span : ℕ) : Type 0 where
-  pub head : 0 < f 0
-  pub ascends : Ascends f
-  pub within : Within f span
-  pub leads : LeadsOn f span
-  pub passes : PassesNone f
+use Rattle.freespace.specs.Links.{link, linked, Chained}
 
 pub chained_none : (f : ℕ → ℕ) (span : ℕ) → f 0 ≡ span + 1 → ((p : ℕ) → (p ≡ 0 → ⊥) → f p ≡ 0) → Chained f span
 chained_none f span first rest =

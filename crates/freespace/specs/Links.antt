@@ -20,3 +20,11 @@ LeadsOn f span = (p : ℕ) → 0 < f p → f p ≤ span → 0 < f (f p)
 -- no place of the chain lies between one and the next
 abbrev pub PassesNone : (ℕ → ℕ) → Type 0
 PassesNone f = (p q : ℕ) → (p < q) × (q < f p) → f q ≡ 0
+
+-- a chain from place 0 to the place past the span
+pub record Chained (f : ℕ → ℕ) (span : ℕ) : Type 0 where
+  pub head : 0 < f 0
+  pub ascends : Ascends f
+  pub within : Within f span
+  pub leads : LeadsOn f span
+  pub passes : PassesNone f

@@ -1,5 +1,5 @@
 ghost use Rattle.std.specs.Prelude.{◌≡◌, ℕ, ◌+◌, ◌<◌, ◌≤◌, true, false, length, IfSome, if◌then◌else◌, nat_eq};
-ghost use Rattle.freespace.specs.Links.{link, linked, Ascends, Within, LeadsOn, PassesNone};
+ghost use Rattle.freespace.specs.Links.{link, linked, Chained};
 ghost use Rattle.freespace.specs.Sets.{counted, without, Picks};
 ghost use Rattle.std.proofs.Common.{rules};
 
@@ -15,11 +15,7 @@ pub struct FreeList {
     members: u16,
     ghost long: { length next ≡ 2465 },
     ghost small: { sectors ≤ 2464 },
-    ghost head: { 0 < link next 0 },
-    ghost ascends: { Ascends (link next) },
-    ghost within: { Within (link next) sectors },
-    ghost leads: { LeadsOn (link next) sectors },
-    ghost passes: { PassesNone (link next) },
+    ghost chain: { Chained (link next) sectors },
     ghost tally: { members ≡ counted (λ n. linked next n) sectors },
 }
 

@@ -1,7 +1,7 @@
 use Rattle.std.proofs.Common.{◌+◌, set, ◌∙◌, arith, length-set}
 use Rattle.freespace.specs.Links.{link, linked}
 use Rattle.freespace.proofs.Counts.{counted_le, counted_added}
-use Rattle.freespace.proofs.LinkLaws.{Chained, linked_in}
+use Rattle.freespace.proofs.LinkLaws.{linked_in}
 use Rattle.freespace.proofs.free_list.FreeList.link_after.Goals as goal
 
 pub overflow_add-self-3 : goal.overflow_add-self-3
@@ -12,18 +12,12 @@ invariant_of-self c =
     let k = c.args.self.now in
     let p = c.args.before in
     let n = c.args.n in
-    let chain : Chained (link k.next) k.sectors = record { head = k.head; ascends = k.ascends; within = k.within; leads = k.leads; passes = k.passes } in
-    let done = linked_in k.next k.sectors chain (omega (arith, k.long, k.small)) p n c.requires.0 c.requires.1 in
-    let ch = done.chain in
+    let done = linked_in k.next k.sectors k.chain (omega (arith, k.long, k.small)) p n c.requires.0 c.requires.1 in
     let mid = set k.next (n + 1) (link k.next p) in
     let new = set mid p (n + 1) in
     record {
       long = length-set mid p (n + 1) ∙ length-set k.next (n + 1) (link k.next p) ∙ k.long;
       small = k.small;
-      head = ch.head;
-      ascends = ch.ascends;
-      within = ch.within;
-      leads = ch.leads;
-      passes = ch.passes;
-      tally = omega (arith, k.tally, counted_added (linked k.next) (linked new) n k.sectors done.is (omega (arith, c.requires.1, k.within p)) done.was);
+      chain = done.chain;
+      tally = omega (arith, k.tally, counted_added (linked k.next) (linked new) n k.sectors done.is (omega (arith, c.requires.1, k.chain.within p)) done.was);
     }

@@ -11,14 +11,9 @@ invariant_of-result c =
     let long = c.no_links-next.ensures.long in
     let next = set none 0 (s + 1) in
     let rest : (p : ℕ) → (p ≡ 0 → ⊥) → link next p ≡ 0 = λ p ne. get_or-set_other none 0 p (s + 1) 0 ne ∙ c.no_links-next.ensures.empty p in
-    let ch = chained_none (link next) s (get_or-set_same none 0 (s + 1) 0 (omega arith)) rest in
     record {
       long = length-set none 0 (s + 1) ∙ long;
       small = c.requires;
-      head = ch.head;
-      ascends = ch.ascends;
-      within = ch.within;
-      leads = ch.leads;
-      passes = ch.passes;
+      chain = chained_none (link next) s (get_or-set_same none 0 (s + 1) 0 (omega arith)) rest;
       tally = sym (counted_none (linked next) s (λ n. ap (ltb 0) (rest (n + 1) (λ e. omega arith))));
     }

@@ -3,7 +3,7 @@ use Rattle.freespace.specs.declared.free_list.FreeList.{FreeList}
 use Rattle.freespace.specs.Links.{link, linked}
 use Rattle.freespace.specs.Sets.{counted}
 use Rattle.freespace.proofs.Counts.{counted_removed}
-use Rattle.freespace.proofs.LinkLaws.{Chained, Changed, unlinked}
+use Rattle.freespace.proofs.LinkLaws.{Changed, unlinked}
 use Rattle.freespace.proofs.free_list.FreeList.unlink_after.Goals as goal
 
 -- the table after the place that follows p is unlinked
@@ -12,9 +12,7 @@ after next p = set (set next p (link next (link next p))) (link next p) 0
 
 module _ (k : FreeList) (p : ℕ) (on : 0 < link k.next p) (in' : link k.next p ≤ k.sectors) where
   done : Changed k.next (after k.next p) k.sectors (link k.next p - 1) false
-  done =
-      let chain : Chained (link k.next) k.sectors = record { head = k.head; ascends = k.ascends; within = k.within; leads = k.leads; passes = k.passes } in
-      unlinked k.next k.sectors chain (omega (arith, k.long, k.small)) p on in'
+  done = unlinked k.next k.sectors k.chain (omega (arith, k.long, k.small)) p on in'
 
   tallied : k.members ≡ counted (linked (after k.next p)) k.sectors + 1
   tallied =
@@ -28,15 +26,10 @@ pub invariant_of-self : goal.invariant_of-self
 invariant_of-self c =
     let k = c.args.self.now in
     let p = c.args.before in
-    let ch = (done k p c.requires.0 c.requires.1).chain in
     let mid = set k.next p (link k.next (link k.next p)) in
     record {
       long = length-set mid (link k.next p) 0 ∙ length-set k.next p (link k.next (link k.next p)) ∙ k.long;
       small = k.small;
-      head = ch.head;
-      ascends = ch.ascends;
-      within = ch.within;
-      leads = ch.leads;
-      passes = ch.passes;
+      chain = (done k p c.requires.0 c.requires.1).chain;
       tally = omega (arith, tallied k p c.requires.0 c.requires.1);
     }
