@@ -1,10 +1,10 @@
 // A device over a vector of sectors, with a door and a tab.
-ghost use Rattle.std.specs.Prelude.{◌≡◌, ◌<◌, false, length, slice_index_or};
+ghost use Rattle.std.specs.Prelude.{◌≡◌, ◌^◌, ◌<◌, false, length, slice_index_or};
 ghost use Rattle.std.specs.List.{AllByRecursion};
-ghost use Rattle.device.specs.Device.{WellFormed, blank, device_fault, wrote};
+ghost use Rattle.device.specs.Device.{WellFormed, blank, wrote};
 ghost use Rattle.plain.specs.Arrays.{array_medium};
 
-use device::{Code, Fault, Layer, ReadingDevice, Sector, WritingDevice};
+use device::{Fault, ReadingDevice, Sector, WritingDevice};
 
 #[derive(Drop)]
 pub struct SectorArray {
@@ -31,15 +31,17 @@ impl SectorArray {
         requires { n < length (array_medium self.now).sectors }
         ensures { result ≡ slice_index_or (array_medium self.now).sectors n blank }
     {
-        let sector = &self.sectors[n as usize];
-        joined(&sector.bytes, sector.back, sector.forward)
+        let sector = self.sectors[n as usize];
+        whole(&sector);
+        sector
     }
 
     fn put_sector(&mut self, n: u16, sector: &Sector)
         requires { n < length (array_medium self.old).sectors }
         ensures { array_medium self.new ≡ wrote (array_medium self.old) n sector.now }
     {
-        self.sectors[n as usize] = joined(&sector.bytes, sector.back, sector.forward);
+        whole(sector);
+        self.sectors[n as usize] = *sector;
     }
 }
 
@@ -55,12 +57,7 @@ impl ReadingDevice for SectorArray {
     }
 
     fn read(&mut self, n: u16) -> Result<Sector, Fault> {
-        if n >= self.count() {
-            return Err(refusal(Code::InvalidOperation));
-        }
-        if self.door {
-            return Err(refusal(Code::NotReady));
-        }
+        self.check_read(n)?;
         Ok(self.sector_at(n))
     }
 }
@@ -71,15 +68,7 @@ impl WritingDevice for SectorArray {
     }
 
     fn write(&mut self, n: u16, sector: &Sector) -> Result<(), Fault> {
-        if n >= self.count() {
-            return Err(refusal(Code::InvalidOperation));
-        }
-        if self.door {
-            return Err(refusal(Code::NotReady));
-        }
-        if self.tab {
-            return Err(refusal(Code::Protected));
-        }
+        self.check_write(n)?;
         self.put_sector(n, sector);
         Ok(())
     }
@@ -93,28 +82,15 @@ impl WritingDevice for SectorArray {
     }
 }
 
-fn refusal(code: Code) -> Fault
-    ensures { result ≡ device_fault code }
+// What the type of a sector says of it: a proof learns what fits a slice or a number, and not what fits a field.
+fn whole(sector: &Sector)
+    ensures { WellFormed sector.now }
 {
-    Fault {
-        code,
-        layer: Layer::Device,
-        sector: 0xFFFF,
-    }
+    fits(&sector.bytes, sector.back, sector.forward);
 }
 
-// A sector of these parts, and what a device has to know of each of its sectors: a slice and a number tell a proof what fits
-// them, and the fields of a struct do not.
-fn joined(bytes: &[u8], back: u16, forward: u16) -> Sector
-    requires { length bytes.now ≡ 128 }
-    ensures same { result ≡ record { bytes = bytes.entry.now; back = back; forward = forward } }
-    ensures whole { WellFormed result }
-{
-    let mut copy = [0; 128];
-    copy.copy_from_slice(bytes);
-    Sector {
-        bytes: copy,
-        back,
-        forward,
-    }
-}
+fn fits(bytes: &[u8], back: u16, forward: u16)
+    ensures bytes { AllByRecursion (λ b. b < 2 ^ 8) bytes.now }
+    ensures back { back < 2 ^ 16 }
+    ensures forward { forward < 2 ^ 16 }
+{}

@@ -1,7 +1,6 @@
-use Rattle.std.proofs.Common.{List, set, ap, ◌∙◌, arith}
+use Rattle.std.proofs.Common.{List, ap, arith}
 use Rattle.device.specs.declared.sector.Sector.{Sector}
 use Rattle.device.specs.Device.{Medium}
-use Rattle.plain.specs.Arrays.{sectors_of}
 use Rattle.plain.proofs.ArrayLaws.{below_both, sectors_set}
 use Rattle.plain.proofs.sector_array.SectorArray.put_sector.Goals as goal
 
@@ -11,8 +10,5 @@ index_mut-requires c = let v = c.args.self.now.sectors in omega (arith, (below_b
 pub returns : goal.returns
 returns c =
     let self = c.args.self.now in
-    let ss = self.sectors.items in
-    let n = c.args.n in
     ap {B = Medium} (λ (xs : List Sector). record { sectors = xs; door = self.door; tab = self.tab })
-    (sectors_set ss n c.joined.result c.requires c.joined.ensures.whole
-    ∙ ap (λ (s : Sector). set (sectors_of ss) n s) c.joined.ensures.same)
+    (sectors_set self.sectors.items c.args.n c.args.sector.now c.requires c.whole.ensures)
