@@ -11,7 +11,6 @@ pub struct BitMap {
     bits: [u8; 308],
     sectors: u16,
     members: u16,
-    ghost long: { length bits ≡ 308 },
     ghost small: { sectors ≤ 2464 },
     ghost below: { (n : ℕ) → bit_of bits n ≡ true → n < sectors },
     ghost tally: { members ≡ counted (λ n. bit_of bits n) sectors },
