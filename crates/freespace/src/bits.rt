@@ -1,4 +1,4 @@
-ghost use Rattle.std.specs.Prelude.{◌≡◌, ℕ, ◌<◌, true, false, length, if◌then◌else◌, nat_eq};
+ghost use Rattle.std.specs.Prelude.{◌≡◌, ℕ, ◌<◌, true, false, if◌then◌else◌, nat_eq};
 ghost use Rattle.freespace.specs.Bits.{bit_at, bit_of};
 
 pub(crate) fn bit(b: u8, k: u16) -> bool

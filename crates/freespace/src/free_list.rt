@@ -1,4 +1,4 @@
-ghost use Rattle.std.specs.Prelude.{◌≡◌, ℕ, ◌+◌, ◌<◌, ◌≤◌, true, false, length, IfSome, if◌then◌else◌, nat_eq};
+ghost use Rattle.std.specs.Prelude.{◌≡◌, ℕ, ◌+◌, ◌<◌, ◌≤◌, true, false, IfSome, if◌then◌else◌, nat_eq};
 ghost use Rattle.freespace.specs.Links.{link, linked, Chained};
 ghost use Rattle.freespace.specs.Sets.{counted, without, Picks};
 ghost use Rattle.std.proofs.Common.{rules};
