@@ -1,4 +1,4 @@
-ghost use Rattle.std.specs.Prelude.{◌≡◌, ℕ, ◌<◌, ◌≤◌, true, false, length, if◌then◌else◌, nat_eq};
+ghost use Rattle.std.specs.Prelude.{◌≡◌, ℕ, ◌<◌, ◌≤◌, true, false, if◌then◌else◌, nat_eq};
 ghost use Rattle.freespace.specs.Bits.{bit_of};
 ghost use Rattle.freespace.specs.Sets.{counted, Picks};
 
@@ -11,7 +11,6 @@ pub struct BitMap {
     bits: [u8; 308],
     sectors: u16,
     members: u16,
-    ghost long: { length bits ≡ 308 },
     ghost small: { sectors ≤ 2464 },
     ghost below: { (n : ℕ) → bit_of bits n ≡ true → n < sectors },
     ghost tally: { members ≡ counted (λ n. bit_of bits n) sectors },
@@ -56,7 +55,7 @@ impl BitMap {
     }
 
     // Removes a member.
-    pub(crate) fn remove(&mut self, n: u16)
+    fn remove(&mut self, n: u16)
         requires { bit_of self.old.bits n ≡ true }
         ensures spans { self.new.sectors ≡ self.old.sectors }
         ensures after { (m : ℕ) → bit_of self.new.bits m ≡ (if nat_eq m n then false else bit_of self.old.bits m) }

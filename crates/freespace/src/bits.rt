@@ -1,4 +1,4 @@
-ghost use Rattle.std.specs.Prelude.{◌≡◌, ℕ, ◌<◌, true, false, length, if◌then◌else◌, nat_eq};
+ghost use Rattle.std.specs.Prelude.{◌≡◌, ℕ, ◌<◌, true, false, if◌then◌else◌, nat_eq};
 ghost use Rattle.freespace.specs.Bits.{bit_at, bit_of};
 
 pub(crate) fn bit(b: u8, k: u16) -> bool
@@ -24,8 +24,7 @@ pub(crate) fn without_bit(b: u8, k: u16) -> u8
 
 // Over any N, so that no proof has the bytes written out.
 pub(crate) fn no_bytes<const N: usize>() -> [u8; N]
-    ensures long { length result ≡ N }
-    ensures empty { (n : ℕ) → bit_of result n ≡ false }
+    ensures { (n : ℕ) → bit_of result n ≡ false }
 {
     [0; N]
 }

@@ -1,4 +1,4 @@
-ghost use Rattle.std.specs.Prelude.{◌≡◌, ℕ, ◌+◌, ◌<◌, ◌≤◌, true, false, length, IfSome, if◌then◌else◌, nat_eq};
+ghost use Rattle.std.specs.Prelude.{◌≡◌, ℕ, ◌+◌, ◌<◌, ◌≤◌, true, false, IfSome, if◌then◌else◌, nat_eq};
 ghost use Rattle.freespace.specs.Links.{link, linked, Chained};
 ghost use Rattle.freespace.specs.Sets.{counted, without, Picks};
 ghost use Rattle.std.proofs.Common.{rules};
@@ -13,7 +13,6 @@ pub struct FreeList {
     next: [u16; 2465],
     sectors: u16,
     members: u16,
-    ghost long: { length next ≡ 2465 },
     ghost small: { sectors ≤ 2464 },
     ghost chain: { Chained (link next) sectors },
     ghost tally: { members ≡ counted (λ n. linked next n) sectors },
@@ -147,8 +146,7 @@ impl SectorAllocator for FreeList {
 
 // Over any N, so that no proof has the links written out.
 fn no_links<const N: usize>() -> [u16; N]
-    ensures long { length result ≡ N }
-    ensures empty { (p : ℕ) → link result p ≡ 0 }
+    ensures { (p : ℕ) → link result p ≡ 0 }
 {
     [0; N]
 }

@@ -1,4 +1,4 @@
-use Rattle.std.proofs.Common.{◌/◌, ◌<◌, true, length, set, ◌∙◌, arith, length-set}
+use Rattle.std.proofs.Common.{◌/◌, ◌<◌, true, length, set, arith}
 use Rattle.freespace.specs.Bits.{bit_of}
 use Rattle.freespace.proofs.BitLaws.{bits_set}
 use Rattle.freespace.proofs.Counts.{counted_le, counted_added, changed_below}
@@ -12,12 +12,11 @@ invariant_of-self c =
     let k = c.args.self.now in
     let n = c.args.n in
     let b = c.with_bit.result in
-    let at : n / 8 < length k.bits = omega (arith, k.long, k.small) in
+    let at : n / 8 < length k.bits = omega (arith, k.small) in
     let is = bits_set k.bits n b true at c.with_bit.ensures in
     let old = bit_of k.bits in
     let new = bit_of (set k.bits (n / 8) b) in
     record {
-      long = length-set k.bits (n / 8) b ∙ k.long;
       small = k.small;
       below = changed_below old new n true is k.sectors c.requires.0 k.below;
       tally = omega (arith, k.tally, counted_added old new n k.sectors is c.requires.0 c.requires.1);

@@ -7,9 +7,8 @@ use Rattle.freespace.proofs.bit_map.BitMapSectorAllocator.clear.Goals as goal
 pub invariant_of-self : goal.invariant_of-self
 invariant_of-self c =
     let bits = c.no_bytes-self.result in
-    let off = c.no_bytes-self.ensures.empty in
+    let off = c.no_bytes-self.ensures in
     record {
-      long = c.no_bytes-self.ensures.long;
       small = omega arith;
       below = λ n on. absurd (both_ways (bit_of bits n) (off n) on);
       tally = sym (counted_none (bit_of bits) c.args.sectors off);

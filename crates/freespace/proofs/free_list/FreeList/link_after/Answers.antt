@@ -1,4 +1,4 @@
-use Rattle.std.proofs.Common.{◌+◌, set, ◌∙◌, arith, length-set}
+use Rattle.std.proofs.Common.{◌+◌, set, arith}
 use Rattle.freespace.specs.Links.{link, linked}
 use Rattle.freespace.proofs.Counts.{counted_le, counted_added}
 use Rattle.freespace.proofs.LinkLaws.{linked_in}
@@ -12,11 +12,10 @@ invariant_of-self c =
     let k = c.args.self.now in
     let p = c.args.before in
     let n = c.args.n in
-    let done = linked_in k.next k.sectors k.chain (omega (arith, k.long, k.small)) p n c.requires.0 c.requires.1 in
+    let done = linked_in k.next k.sectors k.chain (omega (arith, k.small)) p n c.requires.0 c.requires.1 in
     let mid = set k.next (n + 1) (link k.next p) in
     let new = set mid p (n + 1) in
     record {
-      long = length-set mid p (n + 1) ∙ length-set k.next (n + 1) (link k.next p) ∙ k.long;
       small = k.small;
       chain = done.chain;
       tally = omega (arith, k.tally, counted_added (linked k.next) (linked new) n k.sectors done.is (omega (arith, c.requires.1, k.chain.within p)) done.was);
