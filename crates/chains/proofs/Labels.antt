@@ -1,8 +1,10 @@
 -- The text of a label: parts put one after another before zeros, and the first line read back.
-use Rattle.std.proofs.Common.{◌≡◌, ℕ, ◌+◌, ◌-◌, ◌<◌, ◌≤◌, Bool, true, ◌&&◌, eqb, List, [], ◌∷◌, ◌++◌, length, get_or, take, drop, replicate, sym, ap, ◌∙◌, arith}
+use Rattle.std.proofs.Common.{◌≡◌, ℕ, suc, ◌+◌, ◌-◌, ◌≤◌, Bool, true, false, cond, not, ◌&&◌, eqb, ltb, List, [], ◌∷◌, ◌++◌, length, take, drop, replicate, Some, None, Option, sym, refl, ap, ◌∙◌, arith}
+use Rattle.std.specs.List.{before_first, position, position_or_len}
+use Rattle.std.specs.Option.{unwrap_or}
 use borrow.Rule.Slice.PartMut.{put_mid}
-use Rattle.std.proofs.lemmas.List.{append-nil, append_assoc, length-append, take_all, take_more, take_at, drop_at, at_drop_more, at_drop_all, drop-replicate}
-use Rattle.std.proofs.lemmas.Bool.{and_parts, cond-true, cond-false, eq-eqb, ne_eqb, leb-true}
+use Rattle.std.proofs.lemmas.List.{append_assoc, length-append, take_all, take_at, drop_at, drop-replicate}
+use Rattle.std.proofs.lemmas.Bool.{and_parts, leb-true, ltb-false}
 use Rattle.std.proofs.lemmas.Bool.Decides.{nat_tests}
 use Rattle.chains.specs.Names.{same, legal_id}
 use Rattle.chains.specs.Layout.{padded, decimal, label_bytes}
@@ -24,25 +26,25 @@ decimal_short n = grind (arith, nat_tests)
 pub joined_right : (a b c d e : List ℕ) → (((a ++ b) ++ c) ++ d) ++ e ≡ a ++ (b ++ (c ++ (d ++ e)))
 joined_right a b c d e = simp append_assoc
 
--- the first line of a row: at its newline, one byte further, and at the end
-pub line_here : (xs : List ℕ) (i : ℕ) → i < length xs → get_or xs i 0 ≡ 10 → take i xs ++ line (drop i xs) ≡ line xs → take i xs ≡ line xs
-line_here xs i h e inv =
-    let none : line (drop i xs) ≡ [] = at_drop_more line xs i 0 h ∙ cond-true (eqb (get_or xs i 0) 10) [] (get_or xs i 0 ∷ line (drop (i + 1) xs)) (eq-eqb (get_or xs i 0) 10 e) in
-    sym (append-nil (take i xs)) ∙ ap (λ (ys : List ℕ). take i xs ++ ys) (sym none) ∙ inv
+-- the bytes before the first newline, by its place
+line_is : (xs : List ℕ) → before_first (λ b. eqb b 10) xs ≡ line xs
+line_is [] = refl
+line_is (x ∷ xs) =
+    let n = position_or_len (λ b. eqb b 10) xs in
+    elim (eqb x 10) as (λ t. take (cond (not t) (1 + n) 0) (x ∷ xs) ≡ cond t [] (x ∷ line xs)) [
+      | true ↦ refl
+      | false ↦ let more : 1 + n ≡ suc n = omega arith in ap (λ k. take k (x ∷ xs)) more ∙ ap (λ ys. x ∷ ys) (line_is xs)
+    ]
 
-pub line_on : (xs : List ℕ) (i : ℕ) → i < length xs → (get_or xs i 0 ≡ 10 → ⊥) → take i xs ++ line (drop i xs) ≡ line xs → take (i + 1) xs ++ line (drop (i + 1) xs) ≡ line xs
-line_on xs i h ne inv =
-    let x = get_or xs i 0 in
-    let rest = line (drop (i + 1) xs) in
-    let more : line (drop i xs) ≡ x ∷ rest = at_drop_more line xs i 0 h ∙ cond-false (eqb x 10) [] (x ∷ rest) (ne_eqb x 10 ne) in
-    ap (λ (ys : List ℕ). ys ++ rest) (take_more xs i 0 h) ∙ append_assoc (take i xs) (x ∷ []) rest ∙ ap (λ (ys : List ℕ). take i xs ++ ys) (sym more) ∙ inv
-
-pub line_all : (xs : List ℕ) (i : ℕ) → length xs ≤ i → take i xs ++ line (drop i xs) ≡ line xs → take (length xs) xs ≡ line xs
-line_all xs i h inv =
-    take_all (length xs) xs (omega arith) ∙ sym (take_all i xs h) ∙ sym (append-nil (take i xs)) ∙ ap (λ (ys : List ℕ). take i xs ++ ys) (sym (at_drop_all line xs i h)) ∙ inv
-
-pub id_short : (id : List ℕ) → legal_id id ≡ true → length id ≤ 24
-id_short id h = leb-true (length id) 24 (and_parts _ _ (and_parts _ _ h).1).0
+pub line_ends : (xs : List ℕ) (p : Option ℕ) → p ≡ position (λ b. eqb b 10) xs → take (unwrap_or p (length xs)) xs ≡ line xs
+line_ends xs p e =
+    let n = position_or_len (λ b. eqb b 10) xs in
+    let within : (r : Bool) → ltb n (length xs) ≡ r → take (unwrap_or (cond r (Some n) None) (length xs)) xs ≡ take n xs =
+    λ r. elim r as (λ r. ltb n (length xs) ≡ r → take (unwrap_or (cond r (Some n) None) (length xs)) xs ≡ take n xs) [
+      | true ↦ λ _. refl
+      | false ↦ λ h. let most : length xs ≤ n = ltb-false n (length xs) h in take_all (length xs) xs (omega arith) ∙ sym (take_all n xs most)
+    ] in
+    ap (λ o. take (unwrap_or o (length xs)) xs) e ∙ within (ltb n (length xs)) refl ∙ line_is xs
 
 -- the test of a label by its parts
 pub exact_from : (bs id : List ℕ) (size : ℕ) (a b : Bool) → id ≡ line (drop 3 bs) → a ≡ legal_id id → b ≡ same bs (label_bytes id size) → (a && b) ≡ exact_label bs size

@@ -6,7 +6,6 @@ pub mod Formats
 pub mod Tests
 pub mod NameLists
 pub mod Padding
-pub mod Parsing
 pub mod Telling
 pub mod FilesTold
 pub mod MapTold

@@ -1,24 +1,12 @@
 // Rows of bytes.
 ghost use Rattle.std.specs.Prelude.{◌≡◌, ℕ, ◌+◌, ◌<◌, ◌≤◌, List, ◌++◌, length, drop};
-ghost use Rattle.chains.specs.Names.{same};
 ghost use Rattle.chains.specs.Layout.{padded};
 ghost use Rattle.chains.specs.Reading.{number, zeros};
-
-pub(crate) fn same_bytes(a: &[u8], b: &[u8]) -> bool
-    ensures { result ≡ same a.now b.now }
-{
-    a == b
-}
 
 pub(crate) fn all_zero(bytes: &[u8]) -> bool
     ensures { result ≡ zeros bytes.now }
 {
-    for b in bytes {
-        if *b != 0 {
-            return false;
-        }
-    }
-    true
+    bytes.iter().all(|b| *b == 0)
 }
 
 // Whether there are only zeros from byte i on.
@@ -34,7 +22,7 @@ pub(crate) fn word_at(bytes: &[u8], i: usize) -> u16
     requires { i + 1 < length bytes.now }
     ensures { result ≡ number bytes.now i }
 {
-    u16::from(bytes[i]) + 256 * u16::from(bytes[i + 1])
+    u16::from_le_bytes([bytes[i], bytes[i + 1]])
 }
 
 // Writes a part at `at`, before zeros; answers where the next part begins.

@@ -7,7 +7,7 @@ ghost use Rattle.chains.specs.Survey.{descriptor_shaped, named_as, structure_fau
 ghost use Rattle.chains.specs.Changes.{LaidOut};
 ghost use Rattle.chains.specs.Descriptors.{descriptor_read, descriptor_stored, described, fields_in, fields_of};
 
-use crate::bytes::{put, same_bytes, word_at, zero_from};
+use crate::bytes::{put, word_at, zero_from};
 use crate::layout::NULL_LINK;
 use device::{Code, Fault, Layer, ReadingDevice, Sector, WritingDevice};
 use freespace::{AllocatedSector, Unstored};
@@ -29,9 +29,7 @@ pub(crate) fn is_named_as(sector: &Sector, place: &[u8]) -> bool
     requires long { length place.now ≡ 40 }
     ensures { result ≡ named_as sector.now place.now }
 {
-    let name = &sector.bytes[7..40];
-    let asked = &place[0..33];
-    same_bytes(name, asked)
+    sector.bytes[7..40] == place[0..33]
 }
 
 // Whether the zeros, the back link and the first field are those of a descriptor.

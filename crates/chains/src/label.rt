@@ -5,7 +5,7 @@ ghost use Rattle.chains.specs.Fresh.{label_sector};
 ghost use Rattle.chains.specs.Reading.{line};
 ghost use Rattle.chains.specs.Survey.{exact_label};
 
-use crate::bytes::{put, same_bytes};
+use crate::bytes::put;
 use crate::layout::unlinked;
 use crate::name::is_legal_id;
 use device::Sector;
@@ -56,30 +56,22 @@ pub(crate) fn label_sector(id: &[u8], size: u16) -> Sector
     unlinked(bytes)
 }
 
-// How many bytes stand before the first newline.
-fn line_length(bytes: &[u8]) -> usize
-    ensures within { result ≤ length bytes.now }
-    ensures line { take result bytes.now ≡ line bytes.now }
+// The bytes before the first newline.
+fn first_line(bytes: &[u8]) -> &[u8]
+    ensures { result.now ≡ line bytes.now }
 {
-    for (i, b) in bytes.iter().enumerate() {
-        if *b == b'\n' {
-            return i;
-        }
-    }
-    bytes.len()
+    let end = bytes
+        .iter()
+        .position(|b| *b == b'\n')
+        .unwrap_or(bytes.len());
+    &bytes[..end]
 }
 
 // Whether these are the bytes of a label for so many sectors.
-pub(crate) fn is_exact_label(bytes: &[u8], size: u16) -> bool
-    requires long { length bytes.now ≡ 128 }
-    requires small { size < 10000 }
+pub(crate) fn is_exact_label(bytes: &[u8; 128], size: u16) -> bool
+    requires { size < 10000 }
     ensures { result ≡ exact_label bytes.now size }
 {
-    let text = &bytes[3..];
-    let id = &text[..line_length(text)];
-    if !is_legal_id(id) {
-        return false;
-    }
-    let label = label_sector(id, size);
-    same_bytes(bytes, &label.bytes)
+    let id = first_line(&bytes[3..]);
+    is_legal_id(id) && *bytes == label_sector(id, size).bytes
 }

@@ -4,7 +4,7 @@ ghost use Rattle.chains.specs.Layout.{Layout};
 ghost use Rattle.chains.specs.Changes.{LaidOut, lookup_of};
 ghost use Rattle.chains.specs.Places.{lists, place_seen, sector_seen};
 
-use crate::bytes::{all_zero, same_bytes, word_at};
+use crate::bytes::{all_zero, word_at};
 use crate::layout::{DIRECTORY_SECTORS, DIRECTORY_START};
 use device::{Fault, ReadingDevice};
 
@@ -31,7 +31,7 @@ fn is_listed(bytes: &[u8], name: &[u8]) -> bool
     if size > 32 {
         return false;
     }
-    same_bytes(name, &bytes[1..1 + size])
+    name == &bytes[1..1 + size]
 }
 
 // What was found before place p, and in it.

@@ -5,7 +5,7 @@ ghost use Rattle.chains.specs.Layout.{padded, word};
 ghost use Rattle.chains.specs.NameBytes.{name_bytes};
 ghost use Rattle.chains.specs.Survey.{address_in, name_in, well_formed_place};
 
-use crate::bytes::{put, same_bytes, word_at};
+use crate::bytes::{put, word_at};
 use crate::name::{Name, is_legal_name};
 
 #[derive(Drop)]
@@ -40,7 +40,7 @@ pub(crate) fn parse_place(bytes: &[u8]) -> Option<Place>
         return None;
     }
     let at = word_at(bytes, 33);
-    if !same_bytes(bytes, &place_bytes(name, at)) {
+    if bytes != place_bytes(name, at).as_slice() {
         return None;
     }
     Some(Place {
