@@ -4,7 +4,7 @@ use Rattle.std.specs.List.{before_first, position, position_or_len}
 use Rattle.std.specs.Option.{unwrap_or}
 use borrow.Rule.Slice.PartMut.{put_mid}
 use Rattle.std.proofs.lemmas.List.{append_assoc, length-append, take_all, take_at, drop_at, drop-replicate}
-use Rattle.std.proofs.lemmas.Bool.{and_parts, leb-true, ltb-false}
+use Rattle.std.proofs.lemmas.Bool.{ltb-false}
 use Rattle.std.proofs.lemmas.Bool.Decides.{nat_tests}
 use Rattle.chains.specs.Names.{same, legal_id}
 use Rattle.chains.specs.Layout.{padded, decimal, label_bytes}

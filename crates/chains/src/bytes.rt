@@ -1,6 +1,6 @@
 // Rows of bytes.
 ghost use Rattle.std.specs.Prelude.{◌≡◌, ℕ, ◌+◌, ◌<◌, ◌≤◌, List, ◌++◌, length, drop};
-ghost use Rattle.chains.specs.Layout.{padded};
+ghost use Rattle.chains.specs.Layout.{padded, word};
 ghost use Rattle.chains.specs.Reading.{number, zeros};
 
 pub(crate) fn all_zero(bytes: &[u8]) -> bool
@@ -34,4 +34,12 @@ pub(crate) fn put(bytes: &mut [u8], at: usize, part: &[u8]) -> usize
     let next = at + part.len();
     bytes[at..next].copy_from_slice(part);
     next
+}
+
+// Writes 16 bits as `put` does its part, the low byte first.
+pub(crate) fn put_word(bytes: &mut [u8], at: usize, n: u16)
+    requires { at + 2 ≤ length bytes.old }
+    ensures { (m : ℕ) (before : List ℕ) → at ≡ length before → at + 2 ≤ m → bytes.old ≡ padded m before → bytes.new ≡ padded m (before ++ word n) }
+{
+    put(bytes, at, &n.to_le_bytes());
 }

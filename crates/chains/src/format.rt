@@ -9,7 +9,8 @@ use crate::label::label_sector;
 use crate::layout::{DIRECTORY_SECTORS, DIRECTORY_START, MAP_SECTORS, MAP_START, is_disk_size};
 use crate::map::{FreshMarks, Marks, map_sector};
 use crate::name::is_legal_id;
-use device::{Code, Fault, Layer, WritingDevice};
+use crate::walk::structure_fault;
+use device::{Code, Fault, WritingDevice};
 
 // Writes a directory with no file, its last sector first.
 fn write_directory<D: WritingDevice>(device: &mut D) -> Result<(), Fault>
@@ -43,11 +44,7 @@ pub fn format_disk<D: WritingDevice>(device: &mut D, id: &[u8]) -> Result<(), Fa
 {
     let size = device.count();
     if !is_disk_size(size) || !is_legal_id(id) {
-        return Err(Fault {
-            code: Code::BadLabel,
-            layer: Layer::Structure,
-            sector: 0,
-        });
+        return Err(structure_fault(Code::BadLabel, 0));
     }
     write_directory(device)?;
     write_map(device, &FreshMarks { size })?;

@@ -65,14 +65,12 @@ pub fn file_at<D: ReadingDevice>(device: &mut D, p: u16) -> Result<Option<FileEn
     if p >= PLACES {
         return Ok(None);
     }
-    match read_place(device, p)? {
-        None => Ok(None),
-        Some(place) => {
-            let records = read_record_count(device, place.at)?;
-            Ok(Some(FileEntry {
-                name: place.name,
-                records,
-            }))
-        }
-    }
+    let Some(place) = read_place(device, p)? else {
+        return Ok(None);
+    };
+    let records = read_record_count(device, place.at)?;
+    Ok(Some(FileEntry {
+        name: place.name,
+        records,
+    }))
 }

@@ -4,6 +4,7 @@ ghost use Rattle.chains.specs.Names.{all, legal, legal_id, letter, name_characte
 ghost use Rattle.chains.specs.Reading.{among};
 
 use crate::bytes::put;
+use crate::layout::NAME_BYTES;
 
 // A file name of at most 32 bytes; an empty one is no file's.
 #[derive(Clone, Copy)]
@@ -92,7 +93,7 @@ fn is_spelled(name: &[u8]) -> bool
 pub fn is_legal_name(name: &[u8]) -> bool
     ensures { result ≡ legal name.now }
 {
-    is_spelled(name) && name.len() <= 32 && name != b"DIRECTORY".as_slice()
+    is_spelled(name) && name.len() <= NAME_BYTES && name != b"DIRECTORY".as_slice()
 }
 
 fn is_id_character(c: u8) -> bool
