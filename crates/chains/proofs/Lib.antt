@@ -1,4 +1,5 @@
 pub mod Fresh
+pub mod MapBytes
 pub mod Labels
 pub mod Over
 pub mod Writes
