@@ -23,35 +23,18 @@ loop-preserved g c =
           (subst (λ (k : ℕ). Freeing d m.sectors f.records (free.member c.args.allocator.now) (free.member c.free_record.new.allocator) k (left - 1)) (same_ok step.1 c.in_ok-here.was) step.2),
     )
 
-pub returns-in_err-here : goal.returns-in_err-here
-returns-in_err-here g c =
+pub returns-in_err-here-clause-freed : goal.returns-in_err-here-clause-freed
+returns-in_err-here-clause-freed g c d f p laid shut at_place first count span =
     let m = g.D.ReadingDevice.medium c.args.device.now in
     let i = c.loop.invariant in
-    record {
-      same = c.free_record.ensures.same ∙ i.0;
-      spans = c.free_record.ensures.spans ∙ i.1;
-      freed = λ d f p laid shut at_place first count span.
-          let step = freed_more d m _ f.records _ _ _ c.loop.here (c.args.count - c.loop.counter) (g.A.SectorAllocator.span c.loop.allocator) c.free_record.result laid shut i.0 (i.1 ∙ span)
-          c.free_record.ensures.value c.free_record.ensures.after (i.2 d f p laid shut at_place first count span) (omega arith) in
-          absurd (not_both step.1 c.in_err-here.was);
-    }
+    let step = freed_more d m _ f.records _ _ _ c.loop.here (c.args.count - c.loop.counter) (g.A.SectorAllocator.span c.loop.allocator) c.free_record.result laid shut i.0 (i.1 ∙ span)
+    c.free_record.ensures.value c.free_record.ensures.after (i.2 d f p laid shut at_place first count span) (omega arith) in
+    absurd (not_both step.1 c.in_err-here.was)
 
-pub returns-then-here : goal.returns-then-here
-returns-then-here g c =
-    let m = g.D.ReadingDevice.medium c.args.device.now in
-    let i = c.loop.invariant in
-    record {
-      same = i.0;
-      spans = i.1;
-      freed = λ d f p laid shut at_place first count span. (refl, all_freed d m.sectors laid f.records _ _ c.loop.here _ (i.2 d f p laid shut at_place first count span) (inr (omega arith)));
-    }
+pub returns-then-here-clause-freed : goal.returns-then-here-clause-freed
+returns-then-here-clause-freed g c d f p laid shut at_place first count span =
+    (refl, all_freed d (g.D.ReadingDevice.medium c.args.device.now).sectors laid f.records _ _ c.loop.here _ (c.loop.invariant.2 d f p laid shut at_place first count span) (inr (omega arith)))
 
-pub returns-after-loop : goal.returns-after-loop
-returns-after-loop g c =
-    let m = g.D.ReadingDevice.medium c.args.device.now in
-    let i = c.loop.invariant in
-    record {
-      same = i.0;
-      spans = i.1;
-      freed = λ d f p laid shut at_place first count span. (refl, all_freed d m.sectors laid f.records _ _ c.loop.here (c.args.count - c.loop.counter) (i.2 d f p laid shut at_place first count span) (inl (omega arith)));
-    }
+pub returns-after-loop-clause-freed : goal.returns-after-loop-clause-freed
+returns-after-loop-clause-freed g c d f p laid shut at_place first count span =
+    (refl, all_freed d (g.D.ReadingDevice.medium c.args.device.now).sectors laid f.records _ _ c.loop.here (c.args.count - c.loop.counter) (c.loop.invariant.2 d f p laid shut at_place first count span) (inl (omega arith)))
