@@ -21,9 +21,8 @@ pub struct Descriptor {
 }
 
 // Whether the name is that of a place of the directory.
-pub(crate) fn is_named_as(sector: &Sector, place: &[u8]) -> bool
-    requires whole { WellFormed sector.now }
-    requires long { length place.now ≡ 40 }
+pub(crate) fn is_named_as(sector: &Sector, place: &[u8; 40]) -> bool
+    requires { WellFormed sector.now }
     ensures { result ≡ named_as sector.now place.now }
 {
     sector.bytes[7..40] == place[0..33]

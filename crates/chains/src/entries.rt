@@ -1,11 +1,10 @@
 // Writing and clearing a place of the directory.
-ghost use Rattle.std.specs.Prelude.{◌≡◌, ◌+◌, ◌/◌, ◌<◌, ◌≤◌, false, ◌&&◌, List, [], length, is_ok, if◌then◌else◌, Some, None, Err, nat_le, nat_lt};
+ghost use Rattle.std.specs.Prelude.{◌≡◌, ◌+◌, ◌*◌, ◌/◌, ◌%◌, ◌<◌, ◌≤◌, false, ◌&&◌, List, [], length, is_ok, if◌then◌else◌, Some, None, Err, nat_le, nat_lt};
 ghost use Rattle.device.specs.Device.{stored};
 ghost use Rattle.chains.specs.Layout.{Placed, place_bytes};
 ghost use Rattle.chains.specs.Places.{PlaceChanged, entry_of, no_such_place, place_written};
 
 use crate::layout::{DIRECTORY_START, NAME_BYTES, NULL_LINK, PLACES};
-use crate::listing::place_start;
 use crate::place::place_bytes;
 use crate::walk::structure_fault;
 use device::{Code, Fault, WritingDevice};
@@ -15,6 +14,13 @@ fn no_such_place() -> Fault
     ensures { result ≡ no_such_place }
 {
     structure_fault(Code::InvalidOperation, NULL_LINK)
+}
+
+// Where place p begins in its sector, which holds three.
+fn place_start(p: u16) -> usize
+    ensures { result ≡ 40 * (p % 3) }
+{
+    40 * (p % 3) as usize
 }
 
 // Writes the 40 bytes of place p; the other places of its sector and the links stay.

@@ -55,13 +55,12 @@ fn read_listed_file<D: ReadingDevice>(
     device: &mut D,
     scan: &mut Scan,
     place: &Place,
-    bytes: &[u8],
+    bytes: &[u8; 40],
 ) -> Result<(), Fault>
     requires ready { Readable (D.ReadingDevice.medium device.old) }
     requires spans { scan.old.met.sectors ≡ length (D.ReadingDevice.medium device.old).sectors }
     requires few { array_vec_len scan.old.names < 96 }
     requires within { place.now.at < length (D.ReadingDevice.medium device.old).sectors }
-    requires long { length bytes.now ≡ 40 }
     ensures scans { Scans (descriptor_from (D.ReadingDevice.medium device.old).sectors place.now.at (name_bytes place.now.name) bytes.now (seen_of scan.old)) result scan.new }
     ensures count { array_vec_len scan.new.names ≤ array_vec_len scan.old.names + 1 }
     ensures span { scan.new.met.sectors ≡ scan.old.met.sectors }
@@ -85,9 +84,8 @@ fn is_fit(size: u16, scan: &Scan, place: &Place) -> bool
 }
 
 // Takes the name and the descriptor's sector from the bytes of a place, and notes that sector.
-fn enter_file(size: u16, scan: &mut Scan, from: u16, bytes: &[u8]) -> Result<Place, Fault>
-    requires spans { scan.old.met.sectors ≡ size }
-    requires long { length bytes.now ≡ 40 }
+fn enter_file(size: u16, scan: &mut Scan, from: u16, bytes: &[u8; 40]) -> Result<Place, Fault>
+    requires { scan.old.met.sectors ≡ size }
     ensures enters { (ss : Disk) → length ss ≡ size → Enters ss (seen_of scan.old) from bytes.now result (seen_of scan.new) }
     ensures count { array_vec_len scan.new.names ≡ array_vec_len scan.old.names }
     ensures span { scan.new.met.sectors ≡ scan.old.met.sectors }
@@ -109,13 +107,12 @@ fn read_file<D: ReadingDevice>(
     size: u16,
     scan: &mut Scan,
     from: u16,
-    bytes: &[u8],
+    bytes: &[u8; 40],
 ) -> Result<(), Fault>
     requires ready { Readable (D.ReadingDevice.medium device.old) }
     requires sized { size ≡ length (D.ReadingDevice.medium device.old).sectors }
     requires spans { scan.old.met.sectors ≡ size }
     requires few { array_vec_len scan.old.names < 96 }
-    requires long { length bytes.now ≡ 40 }
     ensures scans { Scans (file_on (D.ReadingDevice.medium device.old).sectors (seen_of scan.old) from bytes.now) result scan.new }
     ensures count { array_vec_len scan.new.names ≤ array_vec_len scan.old.names + 1 }
     ensures span { scan.new.met.sectors ≡ scan.old.met.sectors }
@@ -131,13 +128,12 @@ pub(crate) fn read_place<D: ReadingDevice>(
     size: u16,
     scan: &mut Scan,
     from: u16,
-    bytes: &[u8],
+    bytes: &[u8; 40],
 ) -> Result<(), Fault>
     requires ready { Readable (D.ReadingDevice.medium device.old) }
     requires sized { size ≡ length (D.ReadingDevice.medium device.old).sectors }
     requires spans { scan.old.met.sectors ≡ size }
     requires few { array_vec_len scan.old.names < 96 }
-    requires long { length bytes.now ≡ 40 }
     ensures scans { Scans (place_on (D.ReadingDevice.medium device.old).sectors (seen_of scan.old) from bytes.now) result scan.new }
     ensures count { array_vec_len scan.new.names ≤ array_vec_len scan.old.names + 1 }
     ensures span { scan.new.met.sectors ≡ scan.old.met.sectors }

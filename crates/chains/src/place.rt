@@ -28,8 +28,7 @@ pub(crate) fn place_bytes(name: &[u8], at: u16) -> [u8; 40]
 }
 
 // The place that 40 bytes are, if its name is legal.
-pub(crate) fn parse_place(bytes: &[u8]) -> Option<Place>
-    requires { length bytes.now ≡ 40 }
+pub(crate) fn parse_place(bytes: &[u8; 40]) -> Option<Place>
     ensures { MatchOption result ((well_formed_place bytes.now && legal (name_in bytes.now)) ≡ false) (λ p. ((well_formed_place bytes.now && legal (name_in bytes.now)) ≡ true) × (name_bytes p.name ≡ name_in bytes.now) × (p.at ≡ address_in bytes.now)) }
 {
     let size = usize::from(bytes[0]);
@@ -41,7 +40,7 @@ pub(crate) fn parse_place(bytes: &[u8]) -> Option<Place>
         return None;
     }
     let at = word_at(bytes, 33);
-    if bytes != place_bytes(name, at).as_slice() {
+    if *bytes != place_bytes(name, at) {
         return None;
     }
     Some(Place {

@@ -94,8 +94,8 @@ fn read_sector_places<D: ReadingDevice>(
     ensures span { scan.new.met.sectors ≡ scan.old.met.sectors }
     ensures same { D.ReadingDevice.medium device.new ≡ D.ReadingDevice.medium device.old }
 {
-    for j in 0..3 {
-        let place = &sector.bytes[40 * j..40 * j + 40];
+    let (places, _) = sector.bytes.as_chunks::<40>();
+    for place in places {
         read_place(device, size, scan, DIRECTORY_START + i, place)?;
     }
     Ok(())
