@@ -2,7 +2,7 @@
 use Rattle.std.proofs.Common.{◌≡◌, ℕ, zero, suc, ◌+◌, ◌*◌, Bool, true, false, ◌||◌, ltb, leb, List, [], ◌∷◌, ◌++◌, get_or, replicate, None, Option, sym, refl, ap, ◌∙◌}
 use Rattle.std.proofs.lemmas.List.{append-nil}
 use Rattle.chains.specs.Layout.{Entry, NumberedSector, numbered, numbers, member, chains, reserved, allocated, directory_bytes, directory, label_and_map, fixed_sectors, formatted}
-use Rattle.chains.specs.Fresh.{label_sector, fresh_marks, map_sector, map_sectors, empty_directory, empty_directory_sector}
+use Rattle.chains.specs.Fresh.{row, label_sector, fresh_marks, map_sector, map_sectors, empty_directory, empty_directory_sector}
 
 no_place : (k n : ℕ) → get_or (replicate {A = Option Entry} k None) n None ≡ None
 no_place zero n = refl
@@ -26,7 +26,7 @@ allocated_none k s n =
 
 -- the sectors that FORMAT writes are those that its layout fixes
 pub fresh_sectors : (id : List ℕ) (s : ℕ) → numbered 0 (label_sector id s) ∷ (map_sectors (fresh_marks s) ++ empty_directory) ≡ fixed_sectors (formatted id s)
-unfolding label_sector map_sectors map_sector empty_directory empty_directory_sector
+unfolding label_sector row map_sector empty_directory_sector
 fresh_sectors id s =
     let marks : fresh_marks s ≡ allocated s (replicate 96 None) = λ i n. allocated_none 96 s n i in
     ap (λ (m : ℕ → Bool). numbered 0 (label_sector id s) ∷ (map_sectors m ++ empty_directory)) marks

@@ -1,4 +1,5 @@
 pub mod Fresh
+pub mod MapBytes
 pub mod Labels
 pub mod Over
 pub mod Writes
@@ -6,7 +7,6 @@ pub mod Formats
 pub mod Tests
 pub mod NameLists
 pub mod Padding
-pub mod Parsing
 pub mod Telling
 pub mod FilesTold
 pub mod MapTold

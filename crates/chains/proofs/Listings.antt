@@ -1,5 +1,7 @@
 -- What is listed at a place, by what the device gave.
-use Rattle.std.proofs.Common.{◌≡◌, ℕ, ◌+◌, ◌*◌, ◌/◌, ◌%◌, ◌<◌, ◌≤◌, Bool, true, false, cond, ltb, List, length, take, drop, IsErrAnd, Some, None, Ok, Err, Option, Result, sym, ap, ◌∙◌, subst}
+use Rattle.std.proofs.Common.{◌≡◌, ℕ, zero, suc, ◌+◌, ◌*◌, ◌/◌, ◌%◌, ◌<◌, ◌≤◌, Bool, true, false, cond, ltb, List, length, get_or, take, drop, IsErrAnd, Some, None, Ok, Err, Option, Result, sym, refl, ap, ◌∙◌, subst, arith}
+use Rattle.std.specs.Simd.{first_chunks}
+use Rattle.std.proofs.lemmas.List.{drop-drop}
 use Rattle.std.proofs.lemmas.Bool.{lt-ltb, le-ltb}
 use Rattle.device.specs.declared.fault.Fault.{Fault}
 use Rattle.device.specs.declared.sector.Sector.{Sector}
@@ -21,10 +23,21 @@ answered false door given s e = cc
 pub given_sector : (m : Medium) (n : ℕ) (s : Sector) → fetched m n ≡ Ok s → s ≡ sector_at m.sectors n
 given_sector m n s e = answered (ltb n (length m.sectors)) m.door (sector_at m.sectors n) s e
 
-pub parsed_place : (m : Medium) (p start k : ℕ) (s : Sector) (o : Option Place) → Ok s ≡ fetched m (4 + p / 3) → start ≡ 40 * (p % 3) → k ≡ 40 → Parsed (take k (drop start s.bytes)) o → PlaceRead m p (Ok o)
-parsed_place m p start k s o e from many h =
+chunk_at : (k : ℕ) (xs : List ℕ) (i : ℕ) (d : List ℕ) → i < k → get_or (first_chunks 40 k xs) i d ≡ take 40 (drop (40 * i) xs)
+chunk_at zero xs i d h = absurd (omega arith)
+chunk_at (suc k) xs zero d h = refl
+chunk_at (suc k) xs (suc i) d h =
+    let on : 40 + 40 * i ≡ 40 * suc i = omega arith in
+    chunk_at k (drop 40 xs) i d (omega arith) ∙ ap (take 40) (drop-drop (40 * i) 40 xs ∙ ap (λ m. drop m xs) on)
+
+-- one of the three places of a sector
+pub third_of : (bs : List ℕ) (places : List (List ℕ)) (d : List ℕ) (i : ℕ) → places ≡ first_chunks 40 (length bs / 40) bs → length bs ≡ 128 → i < 3 → get_or places i d ≡ take 40 (drop (40 * i) bs)
+third_of bs places d i cut long h = ap (λ ps. get_or ps i d) (cut ∙ ap (λ (n : ℕ). first_chunks 40 (n / 40) bs) long) ∙ chunk_at 3 bs i d h
+
+pub parsed_place : (m : Medium) (p : ℕ) (s : Sector) (bs : List ℕ) (o : Option Place) → Ok s ≡ fetched m (4 + p / 3) → bs ≡ take 40 (drop (40 * (p % 3)) s.bytes) → Parsed bs o → PlaceRead m p (Ok o)
+parsed_place m p s bs o e cut h =
     let given = given_sector m (4 + p / 3) s (sym e) in
-    (sym e ∙ ap Ok given, subst (λ (bs : List ℕ). Parsed bs o) (λ i. take (many i) (drop (from i) (given i).bytes)) h)
+    (sym e ∙ ap Ok given, subst (λ (xs : List ℕ). Parsed xs o) (cut ∙ ap (λ (t : Sector). take 40 (drop (40 * (p % 3)) t.bytes)) given) h)
 
 -- an answer that passes a fault on
 pub refused : (r : Result (Option FileEntry) Fault) (f : Fault) → IsErrAnd r (λ e. e ≡ f) → shown r ≡ Err f

@@ -1,8 +1,9 @@
 -- Looking through the directory's places one after another: what was found, and what the places still to come give.
 use Rattle.std.proofs.Common.{◌≡◌, ℕ, ◌+◌, ◌-◌, ◌*◌, ◌/◌, ◌%◌, ◌<◌, ◌≤◌, Bool, true, false, cond, ◌&&◌, eqb, List, [], ◌∷◌, ◌++◌, length, get_or, take, drop, replicate, Some, None, Ok, Err, Option, Result, sym, refl, ap, ◌∙◌, arith}
 use Rattle.std.specs.Option.{option_or}
+use Rattle.std.specs.Simd.{first_chunks}
 use Rattle.std.proofs.lemmas.Bool.{and_left, ne_eqb, le-leb}
-use Rattle.std.proofs.lemmas.List.{append_assoc, take_at, drop_more, drop_all, get_or-append_right}
+use Rattle.std.proofs.lemmas.List.{append_assoc, take_at, at_drop_more, drop-drop, drop_more, drop_all, get_or-append_right}
 use Rattle.device.specs.declared.fault.Fault.{Fault}
 use Rattle.device.specs.declared.sector.Sector.{Sector}
 use Rattle.device.specs.Device.{Medium, fetched}
@@ -32,6 +33,22 @@ other_seen n l p bs z o = rw (z, o) refl
 pub listed_seen : (n : List ℕ) (l : Lookup) (p at : ℕ) (bs : List ℕ) (o : Option Located) → zeros bs ≡ false → lists n bs ≡ true → at ≡ address_in bs → o ≡ option_or l.file (Some (record { place = p; descriptor = at })) → record { file = o; empty = l.empty } ≡ place_seen n l p bs
 unfolding place_seen
 listed_seen n l p at bs o z y a e = rw (z, y) (λ i. record { file = (e ∙ λ j. option_or l.file (Some (record { place = p; descriptor = a j }))) i; empty = l.empty })
+
+-- ---- places one after another, of which p is the first
+
+abbrev pub places_seen : List ℕ → Lookup → ℕ → List (List ℕ) → Lookup
+places_seen n l p [] = l
+places_seen n l p (bs ∷ rest) = places_seen n (place_seen n l p bs) (p + 1) rest
+
+pub one_seen : (n : List ℕ) (l : Lookup) (p k : ℕ) (ps : List (List ℕ)) (d : List ℕ) → k < length ps → places_seen n l (p + k) (drop k ps) ≡ places_seen n (place_seen n l (p + k) (get_or ps k d)) (p + (k + 1)) (drop (k + 1) ps)
+one_seen n l p k ps d h =
+    let next : p + k + 1 ≡ p + (k + 1) = omega arith in
+    at_drop_more (places_seen n l (p + k)) ps k d h ∙ ap (λ q. places_seen n (place_seen n l (p + k) (get_or ps k d)) q (drop (k + 1) ps)) next
+
+pub three_seen : (n : List ℕ) (l : Lookup) (p : ℕ) (bs : List ℕ) → places_seen n l p (first_chunks 40 3 bs) ≡ sector_seen n l p bs
+three_seen n l p bs =
+    let third : p + 1 + 1 ≡ p + 2 = omega arith in
+    λ i. place_seen n (place_seen n (place_seen n l p (take 40 bs)) (p + 1) (take 40 (drop 40 bs))) (third i) (take 40 (drop-drop 40 40 bs i))
 
 -- ---- one place, by what it is
 

@@ -1,5 +1,5 @@
 -- One more place of the directory, or one more sector of three places, and what is left of them.
-use Rattle.std.proofs.Common.{◌≡◌, ℕ, zero, suc, ◌+◌, ◌-◌, ◌*◌, ◌/◌, ◌%◌, ◌<◌, take, drop, Ok, Err, Result, sym, refl, ap, ◌∙◌, subst, zero-add, arith}
+use Rattle.std.proofs.Common.{◌≡◌, List, ℕ, zero, suc, ◌+◌, ◌-◌, ◌*◌, ◌/◌, ◌%◌, ◌<◌, take, drop, Ok, Err, Result, sym, refl, ap, ◌∙◌, subst, zero-add, arith}
 use Rattle.device.specs.declared.fault.Fault.{Fault}
 use Rattle.device.specs.declared.sector.Sector.{Sector}
 use Rattle.chains.specs.declared.survey.Scan.{Scan}
@@ -67,15 +67,16 @@ module _ (ss : Disk) where
       ∙ ap (λ (k : ℕ). places_on ss k (3 * i) s) split
 
   -- place j of directory sector i, as its bytes
-  pub place_more : (now : Disk) → now ≡ ss → (i j : ℕ) (d : Sector) (part : ℕ) (s : Seen) → j < 3 → d ≡ sector_at ss (4 + i) → part ≡ 40 →
-      next (place_on now s (4 + i) (take part (drop (40 * j) d.bytes))) (λ t. places_on ss (3 - (j + 1)) (3 * i + (j + 1)) t) ≡ places_on ss (3 - j) (3 * i + j) s
+  pub place_more : (now : Disk) → now ≡ ss → (i j : ℕ) (d : Sector) (bs : List ℕ) (s : Seen) → j < 3 → d ≡ sector_at ss (4 + i) → bs ≡ take 40 (drop (40 * j) d.bytes) →
+      next (place_on now s (4 + i) bs) (λ t. places_on ss (3 - (j + 1)) (3 * i + (j + 1)) t) ≡ places_on ss (3 - j) (3 * i + j) s
   unfolding places_on
-  place_more now same_disk i j d part s below there long =
+  place_more now same_disk i j d bs s below there cut =
       let row : i ≡ (3 * i + j) / 3 = omega arith in
       let column : j ≡ (3 * i + j) % 3 = omega arith in
       let on : 3 * i + (j + 1) ≡ 3 * i + j + 1 = omega arith in
       let left : suc (3 - (j + 1)) ≡ 3 - j = omega arith in
-      (λ k. next (place_on (same_disk k) s (4 + i) (take (long k) (drop (40 * j) (there k).bytes))) (λ t. places_on ss (3 - (j + 1)) (on k) t))
+      (λ k. next (place_on (same_disk k) s (4 + i) (cut k)) (λ t. places_on ss (3 - (j + 1)) (on k) t))
+      ∙ ap (λ x. next (place_on ss s (4 + i) (take 40 (drop (40 * j) x.bytes))) (λ t. places_on ss (3 - (j + 1)) (3 * i + j + 1) t)) there
       ∙ (λ k. next (place_on ss s (4 + row k) (take 40 (drop (40 * column k) (sector_at ss (4 + row k)).bytes))) (λ t. places_on ss (3 - (j + 1)) (3 * i + j + 1) t))
       ∙ ap (λ (k : ℕ). places_on ss k (3 * i + j) s) left
 

@@ -6,7 +6,7 @@ use Rattle.device.specs.declared.sector.Sector.{Sector}
 use Rattle.device.specs.declared.fault.Fault.{Fault}
 use Rattle.device.specs.Device.{Medium, stored, wrote}
 use Rattle.chains.specs.Layout.{Disk, NumberedSector, numbered, overwritten}
-use Rattle.chains.specs.Fresh.{written_over}
+use Rattle.chains.specs.Fresh.{RowWritten, written_over}
 use Rattle.chains.proofs.Over.{length_over, over_append}
 
 pub stored_same : (xs : List NumberedSector) (m : Medium) (n : ℕ) → n < length m.sectors → stored (written_over xs m) n ≡ stored m 0
@@ -34,6 +34,9 @@ from_more f n i j e h =
 
 pub from_none : (f : ℕ → NumberedSector) (n i : ℕ) → n ≤ i → from f n i ≡ []
 from_none f n i h = let none : n - i ≡ 0 = omega arith in ap (λ (k : ℕ). map f (range_with_len i k)) none
+
+pub from_all : (f : ℕ → NumberedSector) (n : ℕ) → from f n 0 ≡ map f (range_with_len 0 n)
+from_all f n = let whole : n - 0 ≡ n = omega arith in ap (λ (k : ℕ). map f (range_with_len 0 k)) whole
 
 -- of n sectors those from i on are written, the last first
 pub record WrittenFrom (f : ℕ → NumberedSector) (n i : ℕ) (m now : Medium) : Type 0 where
@@ -72,8 +75,8 @@ pub record Done (xs : List NumberedSector) (m now : Medium) : Type 0 where
   pub begun : stored m 0 ≡ Ok tt
   pub after : now ≡ written_over xs m
 
-pub first_done : (xs : List NumberedSector) (m now : Medium) (r : Result Unit Fault) → r ≡ stored m 0 → now ≡ cond (is_ok r) (written_over xs m) m → r ≡ Ok tt → Done xs m now
-first_done xs m now r value after ok = record { begun = sym value ∙ ok; after = done_is (written_over xs m) m now r after ok }
+pub first_done : (xs : List NumberedSector) (m now : Medium) (r : Result Unit Fault) → RowWritten xs m r now → r ≡ Ok tt → Done xs m now
+first_done xs m now r w ok = record { begun = sym w.value ∙ ok; after = done_is (written_over xs m) m now r w.after ok }
 
 -- the writes after it are done too
 module _ (xs : List NumberedSector) (m now : Medium) (r : Result Unit Fault) (some : 0 < length m.sectors) (first : Done xs m now) (value : r ≡ stored now 0) where

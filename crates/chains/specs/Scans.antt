@@ -1,10 +1,11 @@
 -- What the code keeps while it reads a disk, in the words of the survey, and what reading a disk promises.
-use Rattle.std.specs.Prelude.{◌≡◌, ℕ, true, false, List, map, length, take, Ok, Err, Result}
+use Rattle.std.specs.Prelude.{◌≡◌, ℕ, true, false, List, map, length, Ok, Err, Result}
+use Rattle.arrayvec.specs.ArrayVec.{ArrayVec, array_vec_len}
 use Rattle.device.specs.declared.fault.Code.TheVariants.{BadLabel, NotReady}
 use Rattle.device.specs.declared.fault.Fault.{Fault}
 use Rattle.device.specs.Device.{Medium, device_fault}
 use Rattle.freespace.specs.Bits.{bit_of}
-use Rattle.chains.specs.declared.name_table.NameTable.{NameTable}
+use Rattle.chains.specs.declared.name.Name.{Name}
 use Rattle.chains.specs.declared.survey.Scan.{Scan}
 use Rattle.chains.specs.declared.survey.Survey.{Survey}
 use Rattle.chains.specs.Layout.{Layout, sized, member, numbers, chains}
@@ -13,11 +14,11 @@ use Rattle.chains.specs.Reading.{among, reading}
 use Rattle.chains.specs.Sound.{entries}
 use Rattle.chains.specs.Survey.{Seen, Tells, structure_fault}
 
-abbrev pub listed_names : NameTable → List (List ℕ)
-listed_names t = map name_bytes (take t.count t.names)
+abbrev pub listed_names : ArrayVec Name → List (List ℕ)
+listed_names t = map name_bytes t.items
 
 abbrev pub seen_of : Scan → Seen
-seen_of s = record { met = bit_of s.met.bits; names = λ n. among n (listed_names s.names); files = s.names.count }
+seen_of s = record { met = bit_of s.met.bits; names = λ n. among n (listed_names s.names); files = array_vec_len s.names }
 
 -- a part of the survey that was done by code: the same fault, or the scan as the survey says
 abbrev pub Scans : Result Seen Fault → Result Unit Fault → Scan → Type 0

@@ -1,24 +1,12 @@
 // Rows of bytes.
 ghost use Rattle.std.specs.Prelude.{◌≡◌, ℕ, ◌+◌, ◌<◌, ◌≤◌, List, ◌++◌, length, drop};
-ghost use Rattle.chains.specs.Names.{same};
-ghost use Rattle.chains.specs.Layout.{padded};
+ghost use Rattle.chains.specs.Layout.{padded, word};
 ghost use Rattle.chains.specs.Reading.{number, zeros};
-
-pub(crate) fn same_bytes(a: &[u8], b: &[u8]) -> bool
-    ensures { result ≡ same a.now b.now }
-{
-    a == b
-}
 
 pub(crate) fn all_zero(bytes: &[u8]) -> bool
     ensures { result ≡ zeros bytes.now }
 {
-    for b in bytes {
-        if *b != 0 {
-            return false;
-        }
-    }
-    true
+    bytes.iter().all(|b| *b == 0)
 }
 
 // Whether there are only zeros from byte i on.
@@ -34,7 +22,7 @@ pub(crate) fn word_at(bytes: &[u8], i: usize) -> u16
     requires { i + 1 < length bytes.now }
     ensures { result ≡ number bytes.now i }
 {
-    u16::from(bytes[i]) + 256 * u16::from(bytes[i + 1])
+    u16::from_le_bytes([bytes[i], bytes[i + 1]])
 }
 
 // Writes a part at `at`, before zeros; answers where the next part begins.
@@ -46,4 +34,12 @@ pub(crate) fn put(bytes: &mut [u8], at: usize, part: &[u8]) -> usize
     let next = at + part.len();
     bytes[at..next].copy_from_slice(part);
     next
+}
+
+// Writes 16 bits as `put` does its part, the low byte first.
+pub(crate) fn put_word(bytes: &mut [u8], at: usize, n: u16)
+    requires { at + 2 ≤ length bytes.old }
+    ensures { (m : ℕ) (before : List ℕ) → at ≡ length before → at + 2 ≤ m → bytes.old ≡ padded m before → bytes.new ≡ padded m (before ++ word n) }
+{
+    put(bytes, at, &n.to_le_bytes());
 }

@@ -6,7 +6,6 @@ ghost use Rattle.chains.specs.Reading.{sector_at};
 ghost use Rattle.chains.specs.Survey.{directory_on, exact_label, map_on, need, to_be_marked};
 ghost use Rattle.chains.specs.Readable.{Readable};
 
-use crate::bytes::same_bytes;
 use crate::directory::is_directory_frame;
 use crate::label::is_exact_label;
 use crate::layout::{DIRECTORY_SECTORS, DIRECTORY_START, MAP_SECTORS, MAP_START, RESERVED};
@@ -70,7 +69,7 @@ pub(crate) fn check_map<D: ReadingDevice>(
     let marks = MetMarks { size, met };
     for j in 0..MAP_SECTORS {
         let sector = fetch(device, MAP_START + j)?;
-        if !same_bytes(&sector.bytes, &map_bytes(&marks, j)) {
+        if sector.bytes != map_bytes(&marks, j) {
             return Err(structure_fault(Code::MapWrong, MAP_START + j));
         }
     }

@@ -1,19 +1,16 @@
 // The first sector of a file's chain.
 ghost use Rattle.std.specs.Prelude.{◌≡◌, ℕ, ◌≤◌, false, [], length, is_ok, if◌then◌else◌, Some, None, Ok, Err, MatchResult, slice_index_or};
 ghost use Rattle.device.specs.Device.{WellFormed, wrote};
-ghost use Rattle.device.specs.declared.fault.Code.TheVariants.{BadEntry};
 ghost use Rattle.chains.specs.Layout.{Layout, Entry};
-ghost use Rattle.chains.specs.Survey.{descriptor_shaped, named_as, structure_fault};
+ghost use Rattle.chains.specs.Survey.{descriptor_shaped, named_as};
 ghost use Rattle.chains.specs.Changes.{LaidOut};
 ghost use Rattle.chains.specs.Descriptors.{descriptor_read, descriptor_stored, described, fields_in, fields_of};
 
-use crate::bytes::{put, same_bytes, word_at, zero_from};
-use crate::layout::NULL_LINK;
-use device::{Code, Fault, Layer, ReadingDevice, Sector, WritingDevice};
+use crate::bytes::{put, put_word, word_at, zero_from};
+use crate::layout::{NAME_BYTES, NULL_LINK};
+use crate::walk::structure_fault;
+use device::{Code, Fault, ReadingDevice, Sector, WritingDevice};
 use freespace::{AllocatedSector, Unstored};
-
-// How many bytes of a name a descriptor can hold.
-const NAME_BYTES: usize = 32;
 
 // What a descriptor says of its file's records: the sectors of the first and the last, and how many there are.
 #[derive(Clone, Copy)]
@@ -24,14 +21,11 @@ pub struct Descriptor {
 }
 
 // Whether the name is that of a place of the directory.
-pub(crate) fn is_named_as(sector: &Sector, place: &[u8]) -> bool
-    requires whole { WellFormed sector.now }
-    requires long { length place.now ≡ 40 }
+pub(crate) fn is_named_as(sector: &Sector, place: &[u8; 40]) -> bool
+    requires { WellFormed sector.now }
     ensures { result ≡ named_as sector.now place.now }
 {
-    let name = &sector.bytes[7..40];
-    let asked = &place[0..33];
-    same_bytes(name, asked)
+    sector.bytes[7..40] == place[0..33]
 }
 
 // Whether the zeros, the back link and the first field are those of a descriptor.
@@ -51,20 +45,10 @@ pub(crate) fn descriptor_sector(name: &[u8], fields: Descriptor) -> Sector
     ensures { result ≡ described name.now fields }
 {
     let mut bytes = [0; 128];
-    put(
-        &mut bytes,
-        0,
-        &[
-            (fields.first % 256) as u8,
-            (fields.first / 256) as u8,
-            (fields.last % 256) as u8,
-            (fields.last / 256) as u8,
-            (fields.count % 256) as u8,
-            (fields.count / 256) as u8,
-            0,
-            name.len() as u8,
-        ],
-    );
+    put_word(&mut bytes, 0, fields.first);
+    put_word(&mut bytes, 2, fields.last);
+    put_word(&mut bytes, 4, fields.count);
+    put(&mut bytes, 6, &[0, name.len() as u8]);
     put(&mut bytes, 8, name);
     Sector {
         bytes,
@@ -74,8 +58,7 @@ pub(crate) fn descriptor_sector(name: &[u8], fields: Descriptor) -> Sector
 }
 
 // The fields in the bytes of a descriptor.
-fn parse_descriptor(bytes: &[u8]) -> Descriptor
-    requires { length bytes.now ≡ 128 }
+fn parse_descriptor(bytes: &[u8; 128]) -> Descriptor
     ensures { result ≡ fields_in bytes.now }
 {
     Descriptor {
@@ -95,17 +78,6 @@ pub fn read_descriptor<D: ReadingDevice>(device: &mut D, at: u16) -> Result<Desc
     Ok(parse_descriptor(&sector.bytes))
 }
 
-// A name that no descriptor can hold.
-fn too_long(at: u16) -> Fault
-    ensures { result ≡ structure_fault BadEntry at }
-{
-    Fault {
-        code: Code::BadEntry,
-        layer: Layer::Structure,
-        sector: at,
-    }
-}
-
 // Writes the descriptor of a file to sector `at`. Refuses, with nothing written, a name of more than 32 bytes.
 pub fn write_descriptor<D: WritingDevice>(
     device: &mut D,
@@ -117,7 +89,7 @@ pub fn write_descriptor<D: WritingDevice>(
     ensures after { D.ReadingDevice.medium device.new ≡ (if is_ok result then wrote (D.ReadingDevice.medium device.old) at (described name.now fields) else D.ReadingDevice.medium device.old) }
 {
     if name.len() > NAME_BYTES {
-        return Err(too_long(at));
+        return Err(structure_fault(Code::BadEntry, at));
     }
     device.write(at, &descriptor_sector(name, fields))
 }
@@ -134,7 +106,7 @@ pub fn store_descriptor<D: WritingDevice>(
 {
     if name.len() > NAME_BYTES {
         return Err(Unstored {
-            fault: too_long(sector.number()),
+            fault: structure_fault(Code::BadEntry, sector.number()),
             sector,
         });
     }

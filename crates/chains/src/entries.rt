@@ -1,29 +1,31 @@
 // Writing and clearing a place of the directory.
-ghost use Rattle.std.specs.Prelude.{◌≡◌, ◌+◌, ◌/◌, ◌<◌, ◌≤◌, false, ◌&&◌, List, [], length, is_ok, if◌then◌else◌, Some, None, Err, nat_le, nat_lt};
+ghost use Rattle.std.specs.Prelude.{◌≡◌, ◌+◌, ◌*◌, ◌/◌, ◌%◌, ◌<◌, ◌≤◌, false, ◌&&◌, List, [], length, is_ok, if◌then◌else◌, Some, None, Err, nat_le, nat_lt};
 ghost use Rattle.device.specs.Device.{stored};
 ghost use Rattle.chains.specs.Layout.{Placed, place_bytes};
 ghost use Rattle.chains.specs.Places.{PlaceChanged, entry_of, no_such_place, place_written};
 
-use crate::layout::{DIRECTORY_START, NULL_LINK, PLACES};
-use crate::listing::place_start;
+use crate::layout::{DIRECTORY_START, NAME_BYTES, NULL_LINK, PLACES};
 use crate::place::place_bytes;
-use device::{Code, Fault, Layer, WritingDevice};
+use crate::walk::structure_fault;
+use device::{Code, Fault, WritingDevice};
 
 // What is no place, or has no room for the name.
 fn no_such_place() -> Fault
     ensures { result ≡ no_such_place }
 {
-    Fault {
-        code: Code::InvalidOperation,
-        layer: Layer::Structure,
-        sector: NULL_LINK,
-    }
+    structure_fault(Code::InvalidOperation, NULL_LINK)
+}
+
+// Where place p begins in its sector, which holds three.
+fn place_start(p: u16) -> usize
+    ensures { result ≡ 40 * (p % 3) }
+{
+    40 * (p % 3) as usize
 }
 
 // Writes the 40 bytes of place p; the other places of its sector and the links stay.
-fn write_place<D: WritingDevice>(device: &mut D, p: u16, bytes: &[u8]) -> Result<(), Fault>
-    requires below { p < 96 }
-    requires whole { length bytes.now ≡ 40 }
+fn write_place<D: WritingDevice>(device: &mut D, p: u16, bytes: &[u8; 40]) -> Result<(), Fault>
+    requires { p < 96 }
     ensures value { result ≡ stored (D.ReadingDevice.medium device.old) (4 + p / 3) }
     ensures after { D.ReadingDevice.medium device.new ≡ (if is_ok result then place_written (D.ReadingDevice.medium device.old) p bytes.now else D.ReadingDevice.medium device.old) }
 {
@@ -45,7 +47,7 @@ pub fn put_entry<D: WritingDevice>(
     ensures refused { is_ok result ≡ false → D.ReadingDevice.medium device.new ≡ D.ReadingDevice.medium device.old }
     ensures after { (ps : List Placed) → length name.now ≤ 32 → PlaceChanged (D.ReadingDevice.medium device.old) p (Some (entry_of name.now descriptor ps)) result (D.ReadingDevice.medium device.new) }
 {
-    if p >= PLACES || name.len() > 32 {
+    if p >= PLACES || name.len() > NAME_BYTES {
         return Err(no_such_place());
     }
     write_place(device, p, &place_bytes(name, descriptor))

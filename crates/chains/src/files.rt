@@ -1,5 +1,6 @@
 // One place of the directory and its file: descriptor and records.
 ghost use Rattle.std.specs.Prelude.{◌≡◌, ◌+◌, ◌<◌, ◌≤◌, not, ◌&&◌, length, nat_le, nat_lt};
+ghost use Rattle.arrayvec.specs.ArrayVec.{array_vec_len};
 ghost use Rattle.device.specs.Device.{WellFormed};
 ghost use Rattle.chains.specs.Layout.{Disk};
 ghost use Rattle.chains.specs.NameBytes.{name_bytes};
@@ -32,11 +33,11 @@ fn read_records<D: ReadingDevice>(
 ) -> Result<(), Fault>
     requires ready { Readable (D.ReadingDevice.medium device.old) }
     requires spans { scan.old.met.sectors ≡ length (D.ReadingDevice.medium device.old).sectors }
-    requires few { scan.old.names.count < 96 }
+    requires few { array_vec_len scan.old.names < 96 }
     requires whole { WellFormed descriptor.now }
     requires there { descriptor.now ≡ sector_at (D.ReadingDevice.medium device.old).sectors place.now.at }
     ensures scans { Scans (records_from (D.ReadingDevice.medium device.old).sectors place.now.at (name_bytes place.now.name) (seen_of scan.old)) result scan.new }
-    ensures count { scan.new.names.count ≤ scan.old.names.count + 1 }
+    ensures count { array_vec_len scan.new.names ≤ array_vec_len scan.old.names + 1 }
     ensures span { scan.new.met.sectors ≡ scan.old.met.sectors }
     ensures same { D.ReadingDevice.medium device.new ≡ D.ReadingDevice.medium device.old }
 {
@@ -54,15 +55,14 @@ fn read_listed_file<D: ReadingDevice>(
     device: &mut D,
     scan: &mut Scan,
     place: &Place,
-    bytes: &[u8],
+    bytes: &[u8; 40],
 ) -> Result<(), Fault>
     requires ready { Readable (D.ReadingDevice.medium device.old) }
     requires spans { scan.old.met.sectors ≡ length (D.ReadingDevice.medium device.old).sectors }
-    requires few { scan.old.names.count < 96 }
+    requires few { array_vec_len scan.old.names < 96 }
     requires within { place.now.at < length (D.ReadingDevice.medium device.old).sectors }
-    requires long { length bytes.now ≡ 40 }
     ensures scans { Scans (descriptor_from (D.ReadingDevice.medium device.old).sectors place.now.at (name_bytes place.now.name) bytes.now (seen_of scan.old)) result scan.new }
-    ensures count { scan.new.names.count ≤ scan.old.names.count + 1 }
+    ensures count { array_vec_len scan.new.names ≤ array_vec_len scan.old.names + 1 }
     ensures span { scan.new.met.sectors ≡ scan.old.met.sectors }
     ensures same { D.ReadingDevice.medium device.new ≡ D.ReadingDevice.medium device.old }
 {
@@ -80,15 +80,14 @@ fn read_listed_file<D: ReadingDevice>(
 fn is_fit(size: u16, scan: &Scan, place: &Place) -> bool
     ensures { result ≡ (not ((seen_of scan.now).names (name_bytes place.now.name)) && (nat_le 36 place.now.at && nat_lt place.now.at size)) }
 {
-    !scan.names.has(place.name.bytes()) && RESERVED <= place.at && place.at < size
+    !place.name.is_among(&scan.names) && RESERVED <= place.at && place.at < size
 }
 
 // Takes the name and the descriptor's sector from the bytes of a place, and notes that sector.
-fn enter_file(size: u16, scan: &mut Scan, from: u16, bytes: &[u8]) -> Result<Place, Fault>
-    requires spans { scan.old.met.sectors ≡ size }
-    requires long { length bytes.now ≡ 40 }
+fn enter_file(size: u16, scan: &mut Scan, from: u16, bytes: &[u8; 40]) -> Result<Place, Fault>
+    requires { scan.old.met.sectors ≡ size }
     ensures enters { (ss : Disk) → length ss ≡ size → Enters ss (seen_of scan.old) from bytes.now result (seen_of scan.new) }
-    ensures count { scan.new.names.count ≡ scan.old.names.count }
+    ensures count { array_vec_len scan.new.names ≡ array_vec_len scan.old.names }
     ensures span { scan.new.met.sectors ≡ scan.old.met.sectors }
 {
     let Some(place) = parse_place(bytes) else {
@@ -108,15 +107,14 @@ fn read_file<D: ReadingDevice>(
     size: u16,
     scan: &mut Scan,
     from: u16,
-    bytes: &[u8],
+    bytes: &[u8; 40],
 ) -> Result<(), Fault>
     requires ready { Readable (D.ReadingDevice.medium device.old) }
     requires sized { size ≡ length (D.ReadingDevice.medium device.old).sectors }
     requires spans { scan.old.met.sectors ≡ size }
-    requires few { scan.old.names.count < 96 }
-    requires long { length bytes.now ≡ 40 }
+    requires few { array_vec_len scan.old.names < 96 }
     ensures scans { Scans (file_on (D.ReadingDevice.medium device.old).sectors (seen_of scan.old) from bytes.now) result scan.new }
-    ensures count { scan.new.names.count ≤ scan.old.names.count + 1 }
+    ensures count { array_vec_len scan.new.names ≤ array_vec_len scan.old.names + 1 }
     ensures span { scan.new.met.sectors ≡ scan.old.met.sectors }
     ensures same { D.ReadingDevice.medium device.new ≡ D.ReadingDevice.medium device.old }
 {
@@ -130,15 +128,14 @@ pub(crate) fn read_place<D: ReadingDevice>(
     size: u16,
     scan: &mut Scan,
     from: u16,
-    bytes: &[u8],
+    bytes: &[u8; 40],
 ) -> Result<(), Fault>
     requires ready { Readable (D.ReadingDevice.medium device.old) }
     requires sized { size ≡ length (D.ReadingDevice.medium device.old).sectors }
     requires spans { scan.old.met.sectors ≡ size }
-    requires few { scan.old.names.count < 96 }
-    requires long { length bytes.now ≡ 40 }
+    requires few { array_vec_len scan.old.names < 96 }
     ensures scans { Scans (place_on (D.ReadingDevice.medium device.old).sectors (seen_of scan.old) from bytes.now) result scan.new }
-    ensures count { scan.new.names.count ≤ scan.old.names.count + 1 }
+    ensures count { array_vec_len scan.new.names ≤ array_vec_len scan.old.names + 1 }
     ensures span { scan.new.met.sectors ≡ scan.old.met.sectors }
     ensures same { D.ReadingDevice.medium device.new ≡ D.ReadingDevice.medium device.old }
 {

@@ -1,36 +1,32 @@
 // FORMAT: a new disk, with its label, its map and an empty directory.
-ghost use Rattle.std.specs.Prelude.{◌≡◌, ◌≤◌, length, is_ok, if◌then◌else◌};
-ghost use Rattle.device.specs.Device.{stored};
-ghost use Rattle.chains.specs.Fresh.{empty_directory, map_sectors, written_over};
+ghost use Rattle.std.specs.Prelude.{◌≡◌, ℕ, ◌+◌, ◌<◌, ◌≤◌, length, is_ok, if◌then◌else◌};
+ghost use Rattle.device.specs.declared.sector.Sector.{Sector};
+ghost use Rattle.chains.specs.Fresh.{RowWritten, row};
 ghost use Rattle.chains.specs.Formatting.{format_answer, formatted_medium};
 
 use crate::directory::empty_directory_sector;
 use crate::label::label_sector;
 use crate::layout::{DIRECTORY_SECTORS, DIRECTORY_START, MAP_SECTORS, MAP_START, is_disk_size};
-use crate::map::{FreshMarks, Marks, map_sector};
+use crate::map::{FreshMarks, map_sector};
 use crate::name::is_legal_id;
-use device::{Code, Fault, Layer, WritingDevice};
+use crate::walk::structure_fault;
+use device::{Code, Fault, Sector, WritingDevice};
 
-// Writes a directory with no file, its last sector first.
-fn write_directory<D: WritingDevice>(device: &mut D) -> Result<(), Fault>
-    requires { 36 ≤ length (D.ReadingDevice.medium device.old).sectors }
-    ensures value { result ≡ stored (D.ReadingDevice.medium device.old) 0 }
-    ensures after { D.ReadingDevice.medium device.new ≡ (if is_ok result then written_over empty_directory (D.ReadingDevice.medium device.old) else D.ReadingDevice.medium device.old) }
+// Writes `count` sectors from `start` on, the last first.
+fn write_row<D: WritingDevice, F: Fn(u16) -> Sector>(
+    device: &mut D,
+    start: u16,
+    count: u16,
+    content: F,
+) -> Result<(), Fault>
+    requires some { 0 < count }
+    requires low { start + count ≤ 36 }
+    requires within { 36 ≤ length (D.ReadingDevice.medium device.old).sectors }
+    requires callable { (i : ℕ) → i < count → F.pre content i }
+    ensures { (made : ℕ → Sector) → ((i : ℕ) (s : Sector) → i < count → F.post content i s → s ≡ made i) → RowWritten (row start count made) (D.ReadingDevice.medium device.old) result (D.ReadingDevice.medium device.new) }
 {
-    for i in (0..DIRECTORY_SECTORS).rev() {
-        device.write(DIRECTORY_START + i, &empty_directory_sector(i))?;
-    }
-    Ok(())
-}
-
-// Writes the map, its last sector first.
-fn write_map<D: WritingDevice, M: Marks>(device: &mut D, marks: &M) -> Result<(), Fault>
-    requires { 36 ≤ length (D.ReadingDevice.medium device.old).sectors }
-    ensures value { result ≡ stored (D.ReadingDevice.medium device.old) 0 }
-    ensures after { D.ReadingDevice.medium device.new ≡ (if is_ok result then written_over (map_sectors (M.Marks.marked marks.now)) (D.ReadingDevice.medium device.old) else D.ReadingDevice.medium device.old) }
-{
-    for j in (0..MAP_SECTORS).rev() {
-        device.write(MAP_START + j, &map_sector(marks, j))?;
+    for i in (0..count).rev() {
+        device.write(start + i, &content(i))?;
     }
     Ok(())
 }
@@ -43,13 +39,19 @@ pub fn format_disk<D: WritingDevice>(device: &mut D, id: &[u8]) -> Result<(), Fa
 {
     let size = device.count();
     if !is_disk_size(size) || !is_legal_id(id) {
-        return Err(Fault {
-            code: Code::BadLabel,
-            layer: Layer::Structure,
-            sector: 0,
-        });
+        return Err(structure_fault(Code::BadLabel, 0));
     }
-    write_directory(device)?;
-    write_map(device, &FreshMarks { size })?;
+    write_row(
+        device,
+        DIRECTORY_START,
+        DIRECTORY_SECTORS,
+        empty_directory_sector,
+    )?;
+    write_row(
+        device,
+        MAP_START,
+        MAP_SECTORS,
+        |j| map_sector(&FreshMarks { size }, j),
+    )?;
     device.write(0, &label_sector(id, size))
 }

@@ -38,10 +38,11 @@ pub fn free_chain<D: ReadingDevice, A: SectorAllocator>(
     ensures freed { (d : Layout) (f : Entry) (p : ℕ) → LaidOut d (D.ReadingDevice.medium device.old).sectors → (D.ReadingDevice.medium device.old).door ≡ false → slice_index_or d.places p None ≡ Some f → first ≡ first_of f.records → count ≡ length f.records → A.SectorAllocator.span allocator.old ≡ d.size → (result ≡ Ok tt) × ((n : ℕ) → A.SectorAllocator.member allocator.new n ≡ (A.SectorAllocator.member allocator.old n || member n (map (λ q. q.at) f.records))) }
 {
     let mut here = first;
-    let mut left = count;
-    while left > 0 && here != NULL_LINK {
+    for _ in 0..count {
+        if here == NULL_LINK {
+            break;
+        }
         here = free_record(device, allocator, here)?;
-        left -= 1;
     }
     Ok(())
 }

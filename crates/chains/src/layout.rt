@@ -24,6 +24,9 @@ pub const DIRECTORY_SECTORS: u16 = 32;
 // The places of the directory, three to a sector.
 pub const PLACES: u16 = 96;
 
+// How many bytes of a name a place or a descriptor can hold.
+pub(crate) const NAME_BYTES: usize = 32;
+
 // The sizes that a disk can have.
 pub const LEAST_SECTORS: u16 = 64;
 

@@ -15,7 +15,6 @@ mod listing;
 mod lookup;
 mod map;
 mod name;
-mod name_table;
 mod place;
 mod saving;
 mod survey;

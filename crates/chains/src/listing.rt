@@ -1,5 +1,5 @@
 // The file that a place of the directory names.
-ghost use Rattle.std.specs.Prelude.{◌≡◌, ◌*◌, ◌%◌, ◌<◌};
+ghost use Rattle.std.specs.Prelude.{◌≡◌, ◌*◌, ◌%◌, ◌<◌, drop, take};
 ghost use Rattle.chains.specs.NameBytes.{name_bytes};
 ghost use Rattle.chains.specs.Listings.{PlaceRead, listing, record_count, shown};
 
@@ -30,11 +30,12 @@ impl FileEntry {
     }
 }
 
-// Where place p begins in its sector, which holds three.
-pub(crate) fn place_start(p: u16) -> usize
-    ensures { result ≡ 40 * (p % 3) }
+// Place p in the bytes of its sector, which holds three.
+fn place_in(bytes: &[u8; 128], p: u16) -> &[u8; 40]
+    ensures { result.now ≡ take 40 (drop (40 * (p % 3)) bytes.now) }
 {
-    40 * (p % 3) as usize
+    let (places, _) = bytes.as_chunks::<40>();
+    &places[(p % 3) as usize]
 }
 
 // Place p of the directory, if it names a file.
@@ -44,8 +45,7 @@ fn read_place<D: ReadingDevice>(device: &mut D, p: u16) -> Result<Option<Place>,
     ensures value { PlaceRead (D.ReadingDevice.medium device.old) p result }
 {
     let sector = device.read(DIRECTORY_START + p / 3)?;
-    let start = place_start(p);
-    Ok(parse_place(&sector.bytes[start..start + 40]))
+    Ok(parse_place(place_in(&sector.bytes, p)))
 }
 
 // The count of the descriptor in sector n.
@@ -65,14 +65,12 @@ pub fn file_at<D: ReadingDevice>(device: &mut D, p: u16) -> Result<Option<FileEn
     if p >= PLACES {
         return Ok(None);
     }
-    match read_place(device, p)? {
-        None => Ok(None),
-        Some(place) => {
-            let records = read_record_count(device, place.at)?;
-            Ok(Some(FileEntry {
-                name: place.name,
-                records,
-            }))
-        }
-    }
+    let Some(place) = read_place(device, p)? else {
+        return Ok(None);
+    };
+    let records = read_record_count(device, place.at)?;
+    Ok(Some(FileEntry {
+        name: place.name,
+        records,
+    }))
 }

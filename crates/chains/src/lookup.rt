@@ -4,8 +4,8 @@ ghost use Rattle.chains.specs.Layout.{Layout};
 ghost use Rattle.chains.specs.Changes.{LaidOut, lookup_of};
 ghost use Rattle.chains.specs.Places.{lists, place_seen, sector_seen};
 
-use crate::bytes::{all_zero, same_bytes, word_at};
-use crate::layout::{DIRECTORY_SECTORS, DIRECTORY_START};
+use crate::bytes::{all_zero, word_at};
+use crate::layout::{DIRECTORY_SECTORS, DIRECTORY_START, NAME_BYTES};
 use device::{Fault, ReadingDevice};
 
 // Where the directory lists a file, and the sector of its descriptor.
@@ -23,20 +23,18 @@ pub struct Lookup {
 }
 
 // Whether a place that is not empty lists this name.
-fn is_listed(bytes: &[u8], name: &[u8]) -> bool
-    requires { length bytes.now ≡ 40 }
+fn is_listed(bytes: &[u8; 40], name: &[u8]) -> bool
     ensures { result ≡ lists name.now bytes.now }
 {
     let size = usize::from(bytes[0]);
-    if size > 32 {
+    if size > NAME_BYTES {
         return false;
     }
-    same_bytes(name, &bytes[1..1 + size])
+    name == &bytes[1..1 + size]
 }
 
 // What was found before place p, and in it.
-fn look_in_place(before: Lookup, p: u16, bytes: &[u8], name: &[u8]) -> Lookup
-    requires { length bytes.now ≡ 40 }
+fn look_in_place(before: Lookup, p: u16, bytes: &[u8; 40], name: &[u8]) -> Lookup
     ensures { result ≡ place_seen name.now before p bytes.now }
 {
     if all_zero(bytes) {
@@ -59,14 +57,16 @@ fn look_in_place(before: Lookup, p: u16, bytes: &[u8], name: &[u8]) -> Lookup
 }
 
 // What was found before the sector whose first place is p, and in it.
-fn look_in_sector(before: Lookup, p: u16, bytes: &[u8], name: &[u8]) -> Lookup
-    requires below { p ≤ 96 }
-    requires whole { length bytes.now ≡ 128 }
+fn look_in_sector(before: Lookup, p: u16, bytes: &[u8; 128], name: &[u8]) -> Lookup
+    requires { p ≤ 96 }
     ensures { result ≡ sector_seen name.now before p bytes.now }
 {
-    let first = look_in_place(before, p, &bytes[0..40], name);
-    let second = look_in_place(first, p + 1, &bytes[40..80], name);
-    look_in_place(second, p + 2, &bytes[80..120], name)
+    let (places, _) = bytes.as_chunks::<40>();
+    let mut seen = before;
+    for (k, place) in places.iter().enumerate() {
+        seen = look_in_place(seen, p + k as u16, place, name);
+    }
+    seen
 }
 
 // The file of this name and the lowest empty place, after one read of each sector of the directory.

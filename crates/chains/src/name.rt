@@ -1,8 +1,10 @@
 // File names and disk IDs.
-ghost use Rattle.std.specs.Prelude.{◌≡◌, ◌≤◌, not, ◌&&◌, [], length, take, ◌==◌, nat_le};
-ghost use Rattle.chains.specs.Names.{all, legal, legal_id, letter, name_character, same, spelled};
+ghost use Rattle.std.specs.Prelude.{◌≡◌, ◌≤◌, not, ◌&&◌, [], length, take, ◌==◌, map, nat_le};
+ghost use Rattle.chains.specs.Names.{all, legal, legal_id, letter, name_character, spelled};
+ghost use Rattle.chains.specs.Reading.{among};
 
-use crate::bytes::{put, same_bytes};
+use crate::bytes::put;
+use crate::layout::NAME_BYTES;
 
 // A file name of at most 32 bytes; an empty one is no file's.
 #[derive(Clone, Copy)]
@@ -43,51 +45,55 @@ impl Name {
         &self.bytes[..self.size as usize]
     }
 
-    // Whether it is this name.
-    pub fn is(&self, name: &[u8]) -> bool
-        ensures { result ≡ same name.now (take self.now.size self.now.bytes) }
+    pub(crate) fn is_among(&self, names: &[Name]) -> bool
+        ensures { result ≡ among (name_bytes self.now) (map name_bytes names.now) }
     {
-        same_bytes(name, &self.bytes[..self.size as usize])
+        names.iter().any(|known| self.bytes() == known.bytes())
+    }
+}
+
+impl Default for Name {
+    ghost use Rattle.chains.specs.NameBytes.{name_bytes};
+
+    ghost is_default = { λ n. name_bytes n ≡ [] };
+
+    fn default() -> Name {
+        Name::empty()
     }
 }
 
 fn is_letter(c: u8) -> bool
     ensures { result ≡ letter c }
 {
-    b'A' <= c && c <= b'Z' || b'a' <= c && c <= b'z'
+    c.is_ascii_alphabetic()
 }
 
 fn is_name_character(c: u8) -> bool
     ensures { result ≡ name_character c }
 {
-    is_letter(c) || b'0' <= c && c <= b'9' || c == b'?' || c == b'_' || c == b'.'
+    is_letter(c) || c.is_ascii_digit() || matches!(c, b'?' | b'_' | b'.')
 }
 
 fn are_name_characters(bytes: &[u8]) -> bool
     ensures { result ≡ all name_character bytes.now }
 {
-    for c in bytes {
-        if !is_name_character(*c) {
-            return false;
-        }
-    }
-    true
+    bytes.iter().all(|c| is_name_character(*c))
 }
 
 fn is_spelled(name: &[u8]) -> bool
     ensures { result ≡ spelled name.now }
 {
-    if name.is_empty() {
-        return false;
+    match name {
+        [first, rest @ ..] => is_letter(*first) && are_name_characters(rest),
+        [] => false,
     }
-    is_letter(name[0]) && are_name_characters(&name[1..])
 }
 
 // 1 to 32 bytes, a letter first, and not DIRECTORY.
 pub fn is_legal_name(name: &[u8]) -> bool
     ensures { result ≡ legal name.now }
 {
-    is_spelled(name) && name.len() <= 32 && !same_bytes(name, b"DIRECTORY")
+    is_spelled(name) && name.len() <= NAME_BYTES && name != b"DIRECTORY".as_slice()
 }
 
 fn is_id_character(c: u8) -> bool
@@ -96,17 +102,16 @@ fn is_id_character(c: u8) -> bool
     0x20 <= c && c <= 0x7E && c != b';'
 }
 
+fn are_id_characters(id: &[u8]) -> bool
+    ensures { result ≡ all (λ c. nat_le 0x20 c && (nat_le c 0x7E && not (c == 0x3B))) id.now }
+{
+    id.iter().all(|c| is_id_character(*c))
+}
+
 // 1 to 24 bytes from 20H to 7EH without semicolon.
+#[tactic(auto, using(std::proofs::lemmas::Bool::Decides::nat_tests))]
 pub fn is_legal_id(id: &[u8]) -> bool
     ensures { result ≡ legal_id id.now }
 {
-    if id.is_empty() || id.len() > 24 {
-        return false;
-    }
-    for c in id {
-        if !is_id_character(*c) {
-            return false;
-        }
-    }
-    true
+    !id.is_empty() && id.len() <= 24 && are_id_characters(id)
 }

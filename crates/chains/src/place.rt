@@ -5,7 +5,8 @@ ghost use Rattle.chains.specs.Layout.{padded, word};
 ghost use Rattle.chains.specs.NameBytes.{name_bytes};
 ghost use Rattle.chains.specs.Survey.{address_in, name_in, well_formed_place};
 
-use crate::bytes::{put, same_bytes, word_at};
+use crate::bytes::{put, put_word, word_at};
+use crate::layout::NAME_BYTES;
 use crate::name::{Name, is_legal_name};
 
 #[derive(Drop)]
@@ -22,17 +23,16 @@ pub(crate) fn place_bytes(name: &[u8], at: u16) -> [u8; 40]
     let mut bytes = [0; 40];
     put(&mut bytes, 0, &[name.len() as u8]);
     put(&mut bytes, 1, name);
-    put(&mut bytes, 33, &[(at % 256) as u8, (at / 256) as u8]);
+    put_word(&mut bytes, 33, at);
     bytes
 }
 
 // The place that 40 bytes are, if its name is legal.
-pub(crate) fn parse_place(bytes: &[u8]) -> Option<Place>
-    requires { length bytes.now ≡ 40 }
+pub(crate) fn parse_place(bytes: &[u8; 40]) -> Option<Place>
     ensures { MatchOption result ((well_formed_place bytes.now && legal (name_in bytes.now)) ≡ false) (λ p. ((well_formed_place bytes.now && legal (name_in bytes.now)) ≡ true) × (name_bytes p.name ≡ name_in bytes.now) × (p.at ≡ address_in bytes.now)) }
 {
     let size = usize::from(bytes[0]);
-    if size > 32 {
+    if size > NAME_BYTES {
         return None;
     }
     let name = &bytes[1..1 + size];
@@ -40,7 +40,7 @@ pub(crate) fn parse_place(bytes: &[u8]) -> Option<Place>
         return None;
     }
     let at = word_at(bytes, 33);
-    if !same_bytes(bytes, &place_bytes(name, at)) {
+    if *bytes != place_bytes(name, at) {
         return None;
     }
     Some(Place {

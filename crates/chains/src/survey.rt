@@ -1,5 +1,6 @@
 // Reading a whole disk: the first fault in a fixed order, or how many files there are and which sectors they use.
 ghost use Rattle.std.specs.Prelude.{◌≡◌, ℕ, ◌+◌, ◌*◌, ◌<◌, ◌≤◌, not, ◌&&◌, length, if◌then◌else◌, Ok, Err, nat_le, nat_lt};
+ghost use Rattle.arrayvec.specs.ArrayVec.{array_vec_len};
 ghost use Rattle.device.specs.declared.fault.Code.TheVariants.{NotReady as not_ready};
 ghost use Rattle.device.specs.Device.{WellFormed, device_fault};
 ghost use Rattle.freespace.specs.Bits.{bit_of};
@@ -12,8 +13,9 @@ ghost use Rattle.chains.specs.Readable.{Readable, Told};
 use crate::checks::{check_directory, check_label, check_map};
 use crate::files::read_place;
 use crate::layout::{DIRECTORY_SECTORS, DIRECTORY_START, RESERVED, is_disk_size};
-use crate::name_table::NameTable;
+use crate::name::Name;
 use crate::walk::{fetch, structure_fault};
+use arrayvec::ArrayVec;
 use device::{Code, Fault, ReadingDevice, Sector};
 use freespace::{BitMap, SectorAllocator, fill_unused};
 
@@ -45,7 +47,7 @@ impl Survey {
 #[derive(Drop)]
 pub(crate) struct Scan {
     pub(crate) met: BitMap,
-    pub(crate) names: NameTable,
+    pub(crate) names: ArrayVec<Name, 96>,
 }
 
 fn new_scan(size: u16) -> Scan
@@ -57,7 +59,7 @@ fn new_scan(size: u16) -> Scan
     met.clear(size);
     Scan {
         met,
-        names: NameTable::new(),
+        names: ArrayVec::new(),
     }
 }
 
@@ -67,7 +69,7 @@ fn into_survey(scan: Scan) -> Survey
 {
     let Scan { met, names } = scan;
     Survey {
-        files: names.count(),
+        files: names.len() as u16,
         used: met,
     }
 }
@@ -83,17 +85,17 @@ fn read_sector_places<D: ReadingDevice>(
     requires ready { Readable (D.ReadingDevice.medium device.old) }
     requires sized { size ≡ length (D.ReadingDevice.medium device.old).sectors }
     requires spans { scan.old.met.sectors ≡ size }
-    requires few { scan.old.names.count + 3 ≤ 96 }
+    requires few { array_vec_len scan.old.names + 3 ≤ 96 }
     requires below { i < 32 }
     requires whole { WellFormed sector.now }
     requires there { sector.now ≡ sector_at (D.ReadingDevice.medium device.old).sectors (4 + i) }
     ensures scans { Scans (places_on (D.ReadingDevice.medium device.old).sectors 3 (3 * i) (seen_of scan.old)) result scan.new }
-    ensures count { scan.new.names.count ≤ scan.old.names.count + 3 }
+    ensures count { array_vec_len scan.new.names ≤ array_vec_len scan.old.names + 3 }
     ensures span { scan.new.met.sectors ≡ scan.old.met.sectors }
     ensures same { D.ReadingDevice.medium device.new ≡ D.ReadingDevice.medium device.old }
 {
-    for j in 0..3 {
-        let place = &sector.bytes[40 * j..40 * j + 40];
+    let (places, _) = sector.bytes.as_chunks::<40>();
+    for place in places {
         read_place(device, size, scan, DIRECTORY_START + i, place)?;
     }
     Ok(())
@@ -108,10 +110,10 @@ fn read_directory_sector<D: ReadingDevice>(
     requires ready { Readable (D.ReadingDevice.medium device.old) }
     requires sized { size ≡ length (D.ReadingDevice.medium device.old).sectors }
     requires spans { scan.old.met.sectors ≡ size }
-    requires few { scan.old.names.count + 3 ≤ 96 }
+    requires few { array_vec_len scan.old.names + 3 ≤ 96 }
     requires below { i < 32 }
     ensures scans { Scans (places_on (D.ReadingDevice.medium device.old).sectors 3 (3 * i) (seen_of scan.old)) result scan.new }
-    ensures count { scan.new.names.count ≤ scan.old.names.count + 3 }
+    ensures count { array_vec_len scan.new.names ≤ array_vec_len scan.old.names + 3 }
     ensures span { scan.new.met.sectors ≡ scan.old.met.sectors }
     ensures same { D.ReadingDevice.medium device.new ≡ D.ReadingDevice.medium device.old }
 {
@@ -124,7 +126,7 @@ fn read_places<D: ReadingDevice>(device: &mut D, size: u16, scan: &mut Scan) -> 
     requires ready { Readable (D.ReadingDevice.medium device.old) }
     requires sized { size ≡ length (D.ReadingDevice.medium device.old).sectors }
     requires spans { scan.old.met.sectors ≡ size }
-    requires none { scan.old.names.count ≡ 0 }
+    requires none { array_vec_len scan.old.names ≡ 0 }
     ensures scans { Scans (places_on (D.ReadingDevice.medium device.old).sectors 96 0 (seen_of scan.old)) result scan.new }
     ensures span { scan.new.met.sectors ≡ scan.old.met.sectors }
     ensures same { D.ReadingDevice.medium device.new ≡ D.ReadingDevice.medium device.old }

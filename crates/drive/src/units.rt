@@ -121,7 +121,7 @@ impl Unit {
     {
         match self.state {
             UnitState::Closed => false,
-            UnitState::Open { .. } => self.name.is(name),
+            UnitState::Open { .. } => name == self.name.bytes(),
         }
     }
 }

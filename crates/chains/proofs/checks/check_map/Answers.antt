@@ -6,6 +6,7 @@ use Rattle.chains.specs.Layout.{Disk}
 use Rattle.chains.specs.Survey.{to_be_marked}
 use Rattle.chains.specs.Readable.{Readable}
 use Rattle.chains.proofs.CheckParts.{map_more, map_none}
+use Rattle.chains.proofs.Tests.{unlike}
 use Rattle.chains.proofs.checks.check_map.Goals as goal
 
 pub fetch-requires : goal.fetch-requires
@@ -14,14 +15,14 @@ fetch-requires g c =
     let ready : Readable _ = subst Readable (sym same) c.requires.ready in
     record { within = omega (arith, ready.long); ready = ready }
 
-pub returns-then-not-same_bytes : goal.returns-then-not-same_bytes
-returns-then-not-same_bytes g c =
+pub returns-then-ne : goal.returns-then-ne
+returns-then-ne g c =
     let ss : Disk = (g.D.ReadingDevice.medium c.args.device.now).sectors in
     let marks : ℕ → Bool = to_be_marked c.args.size (bit_of c.args.met.now.bits) in
     record {
       value =
           ap (λ (f : Fault). Err f) c.structure_fault.ensures
-          ∙ map_more ss _ (ap (λ (m : Medium). m.sectors) c.loop-j.invariant.0) 3 c.loop-j.j _ (omega arith) _ marks _ _ c.in_ok-sector.ensures.value c.map_bytes.ensures c.if-not-same_bytes.ensures c.loop-j.invariant.1;
+          ∙ map_more ss _ (ap (λ (m : Medium). m.sectors) c.loop-j.invariant.0) 3 c.loop-j.j _ (omega arith) _ marks _ _ c.in_ok-sector.ensures.value c.map_bytes.ensures (unlike _ _ c.if-ne.ensures) c.loop-j.invariant.1;
       same = c.fetch.ensures.same ∙ c.loop-j.invariant.0;
     }
 
@@ -30,7 +31,7 @@ loop-j-preserved g c =
     let ss : Disk = (g.D.ReadingDevice.medium c.args.device.now).sectors in
     let marks : ℕ → Bool = to_be_marked c.args.size (bit_of c.args.met.now.bits) in (
       c.fetch.ensures.same ∙ c.loop-j.invariant.0,
-      map_more ss _ (ap (λ (m : Medium). m.sectors) c.loop-j.invariant.0) 3 c.loop-j.j _ (omega arith) _ marks _ _ c.in_ok-sector.ensures.value c.map_bytes.ensures c.if-not-same_bytes.ensures c.loop-j.invariant.1,
+      map_more ss _ (ap (λ (m : Medium). m.sectors) c.loop-j.invariant.0) 3 c.loop-j.j _ (omega arith) _ marks _ _ c.in_ok-sector.ensures.value c.map_bytes.ensures (unlike _ _ c.if-ne.ensures) c.loop-j.invariant.1,
     )
 
 pub returns : goal.returns

@@ -30,7 +30,7 @@ returns-then-not-meet c =
     let p = c.in-Some.ensures in
     record {
       enters = λ ss sized.
-          file_met ss (seen_of c.args.scan.now) c.args.from c.args.bytes.now p.0 (name_bytes c.in-Some.place.name) c.in-Some.place.at p.1 p.2 c.args.size sized c.if-not-is_fit.ensures c.args.scan.now.met.sectors c.requires.spans c.if-not-meet.ensures.value
+          file_met ss (seen_of c.args.scan.now) c.args.from c.args.bytes.now p.0 (name_bytes c.in-Some.place.name) c.in-Some.place.at p.1 p.2 c.args.size sized c.if-not-is_fit.ensures c.args.scan.now.met.sectors c.requires c.if-not-meet.ensures.value
           ∙ ap (λ (f : Fault). Err f) (sym c.structure_fault-then-not-meet.ensures);
       count = search rules;
       span = search rules;
@@ -42,8 +42,8 @@ returns c =
     let s : Seen = seen_of c.args.scan.now in
     record {
       enters = λ ss sized. (
-        file_within ss s c.args.from c.args.bytes.now p.0 (name_bytes c.in-Some.place.name) c.in-Some.place.at p.1 p.2 c.args.size sized c.if-not-is_fit.ensures c.args.scan.now.met.sectors c.requires.spans,
-        file_new ss s c.args.from c.args.bytes.now p.0 (name_bytes c.in-Some.place.name) c.in-Some.place.at p.1 p.2 c.args.size sized c.if-not-is_fit.ensures c.args.scan.now.met.sectors c.requires.spans c.if-not-meet.ensures.value
+        file_within ss s c.args.from c.args.bytes.now p.0 (name_bytes c.in-Some.place.name) c.in-Some.place.at p.1 p.2 c.args.size sized c.if-not-is_fit.ensures c.args.scan.now.met.sectors c.requires,
+        file_new ss s c.args.from c.args.bytes.now p.0 (name_bytes c.in-Some.place.name) c.in-Some.place.at p.1 p.2 c.args.size sized c.if-not-is_fit.ensures c.args.scan.now.met.sectors c.requires c.if-not-meet.ensures.value
             _ (λ i. record { met = c.if-not-meet.ensures.after refl i; names = s.names; files = s.files }),
       );
       count = search rules;

@@ -1,11 +1,13 @@
-use Rattle.std.proofs.Common.{Ok, Result, sym, refl, subst, rules}
+use Rattle.std.proofs.Common.{map, Ok, Result, sym, refl, ap, ◌∙◌, subst, rules}
 use Rattle.device.specs.declared.fault.Fault.{Fault}
 use Rattle.freespace.specs.Bits.{bit_of}
 use Rattle.chains.specs.Layout.{Disk}
 use Rattle.chains.specs.NameBytes.{name_bytes}
+use Rattle.chains.specs.Reading.{among}
 use Rattle.chains.specs.Scans.{Scans, seen_of}
 use Rattle.chains.specs.Survey.{Seen}
 use Rattle.chains.proofs.FileParts.{records_done}
+use Rattle.chains.proofs.NameLists.{among_more}
 use Rattle.chains.proofs.files.read_records.Goals as goal
 
 pub returns : goal.returns
@@ -17,7 +19,7 @@ returns g c =
     record {
       scans =
           subst (λ (x : Result Seen Fault). Scans x (Ok tt) (record { met = c.walk.new.met; names = c.push.new.self })) (sym done)
-          (refl, λ i. record { met = bit_of c.walk.new.met.bits; names = λ n. c.push.ensures.names n i; files = c.push.ensures.count i });
+          (refl, λ i. record { met = bit_of c.walk.new.met.bits; names = λ n. (ap (λ ns. among n (map name_bytes ns)) c.push.ensures.items ∙ among_more n c.args.scan.now.names.items c.args.place.now.name) i; files = c.push.ensures.len i });
       count = search rules;
       span = search rules;
       same = search rules;

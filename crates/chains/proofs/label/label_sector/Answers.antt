@@ -2,7 +2,7 @@ use Rattle.std.proofs.Common.{◌≡◌, ℕ, ◌+◌, ◌≤◌, List, [], ◌�
 use Rattle.std.proofs.lemmas.List.{length-append}
 use Rattle.chains.specs.Layout.{null, sector, padded, decimal}
 use Rattle.chains.specs.Fresh.{label_sector}
-use Rattle.chains.proofs.Labels.{decimal_short, joined_right}
+use Rattle.chains.proofs.Labels.{decimal_short, joined_right, printed_is}
 use Rattle.chains.proofs.label.label_sector.Goals as goal
 
 pub returns : goal.returns
@@ -21,7 +21,9 @@ returns c =
     let b1 = c.put-id_at.ensures.text 128 [] refl (omega arith) refl in
     let b2 = c.put-key_at.ensures.text 128 (codes "ID=") (omega arith) (omega arith) b1 in
     let b3 = c.put-size_at.ensures.text 128 to_id (omega arith) (omega arith) b2 in
-    let b4 = c.put_decimal-end.ensures.text 128 to_key (omega arith) (omega arith) b3 in
+    let printed : c.as_bytes.result.now ≡ size = c.as_bytes.ensures.value ∙ c.format.ensures.text ∙ printed_is c.args.size c.requires.small in
+    let same_length : length c.as_bytes.result.now ≡ length size = ap (λ (xs : List ℕ). length xs) printed in
+    let b4 = c.put-end.ensures.text 128 to_key (omega arith) (omega arith) b3 ∙ ap (λ (xs : List ℕ). padded 128 (to_key ++ xs)) printed in
     let b5 = c.put.ensures.text 128 to_size (omega arith) (omega arith) b4 in
     let whole = b5 ∙ ap (λ (xs : List ℕ). padded 128 xs) (joined_right (codes "ID=") id key size (10 ∷ [])) in
     c.unlinked.ensures ∙ ap (λ (xs : List ℕ). sector xs null null) whole

@@ -11,5 +11,5 @@ returns c =
     let long : length front ≡ 33 = omega (arith, length_padded 32 name (omega arith)) in
     let b1 = c.put.ensures.text 40 [] refl (omega arith) refl in
     let b2 = c.put-2.ensures.text 40 (size ∷ []) refl (omega arith) b1 in
-    let b3 = c.put-3.ensures.text 40 front (sym long) (omega arith) (b2 ∙ sym (padded_more 40 (32 - size) (size ∷ name) (omega arith))) in
+    let b3 = c.put_word.ensures 40 front (sym long) (omega arith) (b2 ∙ sym (padded_more 40 (32 - size) (size ∷ name) (omega arith))) in
     b3 ∙ padded_two 40 5 front (word c.args.at) (omega arith)

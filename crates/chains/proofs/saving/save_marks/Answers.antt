@@ -1,18 +1,15 @@
-use Rattle.std.proofs.Common.{◌≡◌, ℕ, ◌-◌, sym, subst, arith}
+use Rattle.std.proofs.Common.{◌≡◌, ◌-◌, arith}
 use Rattle.std.proofs.lemmas.Result.{err_from_is_err_and}
-use Rattle.chains.specs.Fresh.{written_over}
-use Rattle.chains.specs.Saving.{remapped_all}
-use Rattle.chains.proofs.Saves.{SavedFrom, save_more, save_refused}
+use Rattle.chains.proofs.Saves.{save_more, save_refused}
 use Rattle.chains.proofs.saving.save_marks.Goals as goal
 
-pub returns-in_err-save_map_sector : goal.returns-in_err-save_map_sector
-returns-in_err-save_map_sector g c =
+pub returns-in_err-save_map_sector-clause-value : goal.returns-in_err-save_map_sector-clause-value
+returns-in_err-save_map_sector-clause-value g c =
     let marks = g.M.Marks.marked c.args.marks.now in
     let m = g.D.ReadingDevice.medium c.args.device.now in
     let p = err_from_is_err_and {Q = λ e. e ≡ c.in_err-save_map_sector.field-0.0} c.from_residual.result c.from_residual.ensures.1 in
-    let r = save_refused marks c.loop-j.j (c.loop-j.j - 1) m _ _ c.save_map_sector.result (omega arith) (omega arith) (record { value = c.save_map_sector.ensures.value; after = c.save_map_sector.ensures.after }) c.loop-j.invariant
-    _ _ c.from_residual.result c.in_err-save_map_sector.was p.1 p.2 in
-    record { value = r.0; after = r.1 (written_over (remapped_all m.sectors marks) m) }
+    (save_refused marks c.loop-j.j (c.loop-j.j - 1) m _ _ c.save_map_sector.result (omega arith) (omega arith) (record { value = c.save_map_sector.ensures.value; after = c.save_map_sector.ensures.after }) c.loop-j.invariant
+    _ _ c.from_residual.result c.in_err-save_map_sector.was p.1 p.2).0
 
 pub loop-j-preserved : goal.loop-j-preserved
 loop-j-preserved g c =
@@ -20,11 +17,3 @@ loop-j-preserved g c =
     let m = g.D.ReadingDevice.medium c.args.device.now in
     save_more marks c.loop-j.j (c.loop-j.j - 1) m _ _ c.save_map_sector.result (omega arith) (omega arith) (record { value = c.save_map_sector.ensures.value; after = c.save_map_sector.ensures.after }) c.loop-j.invariant
     c.in_ok-save_map_sector.was
-
-pub returns : goal.returns
-returns g c =
-    let marks = g.M.Marks.marked c.args.marks.now in
-    let m = g.D.ReadingDevice.medium c.args.device.now in
-    let end : c.loop-j.j ≡ 0 = omega arith in
-    let all : SavedFrom marks 0 m (g.D.ReadingDevice.medium c.loop-j.device) = subst (λ (k : ℕ). SavedFrom marks k m (g.D.ReadingDevice.medium c.loop-j.device)) end c.loop-j.invariant in
-    record { value = sym (all.begun (omega arith)); after = all.after }

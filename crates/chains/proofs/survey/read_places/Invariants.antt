@@ -1,4 +1,5 @@
 use Rattle.std.proofs.Common.{◌≡◌, ◌-◌, ◌*◌, ◌≤◌}
+use Rattle.arrayvec.specs.ArrayVec.{array_vec_len}
 use Rattle.chains.specs.Survey.{places_on}
 use Rattle.chains.specs.Scans.{seen_of}
 use Rattle.chains.proofs.survey.read_places.Given as goal
@@ -9,5 +10,5 @@ invariant-loop-i g l =
     let ss = (g.D.ReadingDevice.medium l.initial.device).sectors in
     (g.D.ReadingDevice.medium l.device ≡ g.D.ReadingDevice.medium l.initial.device) ×
     (l.scan.met.sectors ≡ l.initial.scan.met.sectors) ×
-    (l.scan.names.count ≤ 3 * l.i) ×
+    (array_vec_len l.scan.names ≤ 3 * l.i) ×
     (places_on ss (3 * 32 - 3 * l.i) (3 * l.i) (seen_of l.scan) ≡ places_on ss 96 0 (seen_of l.initial.scan))
