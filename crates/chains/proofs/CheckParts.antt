@@ -12,9 +12,9 @@ use Rattle.chains.specs.Survey.{need, directory_framed, directory_on, map_on}
 pub fetched_same : (a b : Sector) → ◌≡◌ {A = Result Sector Fault} (Ok a) (Ok b) → a ≡ b
 fetched_same a b e = cc
 
--- sector i of n was fetched as s, and what is left gives the whole
-module _ (ss now : Disk) (same_disk : now ≡ ss) (n i : ℕ) (w : Result Unit Fault) where
-  module _ (below : i < n) (s : Sector) where
+module _ (ss : Disk) where
+  -- sector i of n was fetched as s, and what is left gives the whole
+  module _ (now : Disk) (same_disk : now ≡ ss) (n i : ℕ) (w : Result Unit Fault) (below : i < n) (s : Sector) where
     one_left : n - i ≡ suc (n - (i + 1))
     one_left = omega arith
 
@@ -35,13 +35,15 @@ module _ (ss now : Disk) (same_disk : now ≡ ss) (n i : ℕ) (w : Result Unit F
         ∙ ap (λ (k : ℕ). map_on ss m k i) (sym one_left)
         ∙ rest
 
-  none_left : n ≤ i → n - i ≡ 0
-  none_left h = omega arith
+  -- no sector is left
+  module _ (n i : ℕ) (w : Result Unit Fault) (over : n ≤ i) where
+    none_left : n - i ≡ 0
+    none_left = omega arith
 
-  pub directory_none : n ≤ i → directory_on ss (n - i) i ≡ w → Ok tt ≡ w
-  unfolding directory_on
-  directory_none h rest = ap (λ (k : ℕ). directory_on ss k i) (sym (none_left h)) ∙ rest
+    pub directory_none : directory_on ss (n - i) i ≡ w → Ok tt ≡ w
+    unfolding directory_on
+    directory_none rest = ap (λ (k : ℕ). directory_on ss k i) (sym none_left) ∙ rest
 
-  pub map_none : n ≤ i → (m : ℕ → Bool) → map_on ss m (n - i) i ≡ w → Ok tt ≡ w
-  unfolding map_on
-  map_none h m rest = ap (λ (k : ℕ). map_on ss m k i) (sym (none_left h)) ∙ rest
+    pub map_none : (m : ℕ → Bool) → map_on ss m (n - i) i ≡ w → Ok tt ≡ w
+    unfolding map_on
+    map_none m rest = ap (λ (k : ℕ). map_on ss m k i) (sym none_left) ∙ rest

@@ -1,13 +1,13 @@
 -- One file of the survey, in the steps in which the code reads it.
 use Rattle.std.proofs.Common.{◌≡◌, ℕ, ◌+◌, ◌<◌, Bool, true, false, not, ◌&&◌, ◌||◌, eqb, ltb, leb, List, length, Ok, Err, Result, sym, refl, ap, ◌∙◌, arith}
 use Rattle.std.proofs.lemmas.Bool.{and_parts, ltb-true, eq-eqb}
-use Rattle.device.specs.declared.fault.Code.TheVariants.{BadEntry, PointerError}
+use Rattle.device.specs.declared.fault.Code.TheVariants.{BadEntry, NotInDirectory, PointerError}
 use Rattle.device.specs.declared.fault.Fault.{Fault}
 use Rattle.device.specs.declared.sector.Sector.{Sector}
 use Rattle.chains.specs.Names.{legal, same}
 use Rattle.chains.specs.Layout.{Disk}
 use Rattle.chains.specs.Reading.{number, sector_at, usable}
-use Rattle.chains.specs.Survey.{Seen, WalkEnd, need, next, structure_fault, last_field, walk_on, records_on, file_on, well_formed_place, name_in, address_in}
+use Rattle.chains.specs.Survey.{Seen, WalkEnd, need, next, structure_fault, last_field, walk_on, records_on, file_on, well_formed_place, name_in, address_in, named_as, descriptor_shaped}
 use Rattle.chains.specs.Walks.{Walks}
 use Rattle.chains.specs.Files.{records_from, descriptor_from, with_met}
 
@@ -36,6 +36,18 @@ records_done ss at name s d count last field end met there counts lasts w e f =
     ∙ ap (λ (x : Result WalkEnd Fault). on count last x) (walked (walk_on ss s.met at count) end met w)
     ∙ ap (λ (b : Bool). need b PointerError at (Ok (after (record { at = end; met = met })))) right
 
+-- the descriptor that was fetched is the place's
+pub descriptor_done :
+    (ss now : Disk) (same_disk : now ≡ ss) (at : ℕ) (name bs : List ℕ) (s : Seen) (d : Sector) →
+    ◌≡◌ {A = Result Sector Fault} (Ok d) (Ok (sector_at ss at)) → true ≡ named_as d bs → true ≡ descriptor_shaped d →
+    records_from now at name s ≡ descriptor_from ss at name bs s
+descriptor_done ss now same_disk at name bs s d got named shaped =
+    let there : d ≡ sector_at ss at = cc in
+    let right : named_as (sector_at ss at) bs ≡ true = ap (λ (x : Sector). named_as x bs) (sym there) ∙ sym named in
+    let fine : descriptor_shaped (sector_at ss at) ≡ true = ap (λ (x : Sector). descriptor_shaped x) (sym there) ∙ sym shaped in
+    ap (λ (x : Disk). records_from x at name s) same_disk
+    ∙ sym (λ i. need (right i) NotInDirectory at (need (fine i) PointerError at (records_from ss at name s)))
+
 -- ---- from the bytes of a place to the descriptor
 
 module _ (ss : Disk) (s : Seen) (from : ℕ) (bs : List ℕ) where
@@ -51,35 +63,33 @@ module _ (ss : Disk) (s : Seen) (from : ℕ) (bs : List ℕ) where
   pub file_malformed : (well_formed_place bs && legal (name_in bs)) ≡ false → file_on ss s from bs ≡ Err (structure_fault BadEntry from)
   file_malformed e = file_is ∙ ap (λ (b : Bool). need (b && (not (s.names (name_in bs)) && usable ss (address_in bs))) BadEntry from (need (not (s.met (address_in bs))) PointerError from (descriptor_from ss (address_in bs) (name_in bs) bs (with_met (address_in bs) s)))) e
 
-  module _ (good : (well_formed_place bs && legal (name_in bs)) ≡ true) (name : List ℕ) (at : ℕ) (names : name ≡ name_in bs) (leads : at ≡ address_in bs) (size : ℕ) (sized : length ss ≡ size) where
+  module _ (good : (well_formed_place bs && legal (name_in bs)) ≡ true) (name : List ℕ) (at : ℕ) (names : name ≡ name_in bs) (leads : at ≡ address_in bs) where
     file_by : file_on ss s from bs ≡ left name at
     file_by =
         file_is
         ∙ ap (λ (b : Bool). need (b && (not (s.names (name_in bs)) && usable ss (address_in bs))) BadEntry from (need (not (s.met (address_in bs))) PointerError from (descriptor_from ss (address_in bs) (name_in bs) bs (with_met (address_in bs) s)))) good
         ∙ sym (λ i. left (names i) (leads i))
 
-    fit_is : {b : Bool} → b ≡ (not (s.names name) && (leb 36 at && ltb at size)) → (not (s.names name) && usable ss at) ≡ b
-    fit_is e = ap (λ (k : ℕ). not (s.names name) && (leb 36 at && ltb at k)) sized ∙ sym e
+    file_fit : {b : Bool} → b ≡ (not (s.names name) && usable ss at) → file_on ss s from bs ≡ need b BadEntry from (need (not (s.met at)) PointerError from (descriptor_from ss at name bs (with_met at s)))
+    file_fit e = file_by ∙ ap (λ (b : Bool). need b BadEntry from (need (not (s.met at)) PointerError from (descriptor_from ss at name bs (with_met at s)))) (sym e)
 
-    pub file_unfit : false ≡ (not (s.names name) && (leb 36 at && ltb at size)) → file_on ss s from bs ≡ Err (structure_fault BadEntry from)
-    file_unfit e = file_by ∙ ap (λ (b : Bool). need b BadEntry from (need (not (s.met at)) PointerError from (descriptor_from ss at name bs (with_met at s)))) (fit_is e)
+    pub file_unfit : false ≡ (not (s.names name) && usable ss at) → file_on ss s from bs ≡ Err (structure_fault BadEntry from)
+    file_unfit e = file_fit e
 
-    module _ (fit : true ≡ (not (s.names name) && (leb 36 at && ltb at size))) (span : ℕ) (spans : span ≡ size) where
-      high : (leb 36 at && ltb at size) ≡ true
-      high = (and_parts (not (s.names name)) (leb 36 at && ltb at size) (sym fit)).1
+    module _ (fit : true ≡ (not (s.names name) && usable ss at)) where
+      high : usable ss at ≡ true
+      high = (and_parts (not (s.names name)) (usable ss at) (sym fit)).1
 
       pub file_within : at < length ss
-      file_within = let l = ltb-true at size (and_parts (leb 36 at) (ltb at size) high).1 in omega arith
+      file_within = ltb-true at (length ss) (and_parts (leb 36 at) (ltb at (length ss)) high).1
 
-      by_met : (b : Bool) → b ≡ ((leb 36 at && ltb at span) && not (s.met at)) → file_on ss s from bs ≡ need b PointerError from (descriptor_from ss at name bs (with_met at s))
+      by_met : (b : Bool) → b ≡ (usable ss at && not (s.met at)) → file_on ss s from bs ≡ need b PointerError from (descriptor_from ss at name bs (with_met at s))
       by_met b e =
-          let new : not (s.met at) ≡ b = sym (e ∙ ap (λ (k : ℕ). (leb 36 at && ltb at k) && not (s.met at)) spans ∙ ap (λ (x : Bool). x && not (s.met at)) high) in
-          file_by
-          ∙ ap (λ (x : Bool). need x BadEntry from (need (not (s.met at)) PointerError from (descriptor_from ss at name bs (with_met at s)))) (fit_is fit)
-          ∙ ap (λ (x : Bool). need x PointerError from (descriptor_from ss at name bs (with_met at s))) new
+          let new : not (s.met at) ≡ b = sym (e ∙ ap (λ (x : Bool). x && not (s.met at)) high) in
+          file_fit fit ∙ ap (λ (x : Bool). need x PointerError from (descriptor_from ss at name bs (with_met at s))) new
 
-      pub file_met : false ≡ ((leb 36 at && ltb at span) && not (s.met at)) → file_on ss s from bs ≡ Err (structure_fault PointerError from)
+      pub file_met : false ≡ (usable ss at && not (s.met at)) → file_on ss s from bs ≡ Err (structure_fault PointerError from)
       file_met e = by_met false e
 
-      pub file_new : true ≡ ((leb 36 at && ltb at span) && not (s.met at)) → (t : Seen) → t ≡ with_met at s → file_on ss s from bs ≡ descriptor_from ss at name bs t
+      pub file_new : true ≡ (usable ss at && not (s.met at)) → (t : Seen) → t ≡ with_met at s → file_on ss s from bs ≡ descriptor_from ss at name bs t
       file_new e t same_seen = by_met true e ∙ ap (λ (x : Seen). descriptor_from ss at name bs x) (sym same_seen)

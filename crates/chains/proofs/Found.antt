@@ -5,13 +5,13 @@ use Rattle.device.specs.declared.fault.Code.TheVariants.{BadLabel, NotReady}
 use Rattle.device.specs.declared.fault.Fault.{Fault}
 use Rattle.device.specs.Device.{Medium, WellFormed, device_fault}
 use Rattle.freespace.specs.Bits.{bit_of}
-use Rattle.chains.specs.declared.survey.Scan.{Scan}
+use Rattle.device.specs.declared.reading.ReadingDevice.{Ghosts}
+use Rattle.chains.specs.declared.scan.Scan.{Scan}
 use Rattle.chains.specs.declared.survey.Survey.{Survey}
 use Rattle.chains.specs.Layout.{Disk, Layout, sized}
 use Rattle.chains.specs.Reading.{Found, fault, read, reading}
 use Rattle.chains.specs.Survey.{Seen, SumsUp, Tells, structure_fault, survey}
-use Rattle.chains.specs.Scans.{DiskRead, Scans, Shows, seen_of}
-use Rattle.chains.specs.Readable.{Told}
+use Rattle.chains.specs.Scans.{DiskRead, Scans, Shows, Told, seen_of}
 use Rattle.chains.proofs.PlaceParts.{scanned_ok, scanned_err}
 use Rattle.chains.proofs.SurveyTold.{survey_tells}
 
@@ -23,7 +23,7 @@ shows_so : (x : Found Layout) (s : Seen) (v : Survey) → v.files ≡ s.files �
 shows_so (fault c n) s v files used t = t
 shows_so (read d) s v files used t = record { files = files ∙ t.files; used = λ n. ap (λ (f : ℕ → Bool). f n) used ∙ t.met n }
 
-module _ (ss : Disk) (whole : AllByRecursion WellFormed ss) (r : Result Unit Fault) (t : Scan) (scans : Scans (survey ss) r t) where
+module _ {D : Type 0} {G : Ghosts D} (ss : Disk) (whole : AllByRecursion WellFormed ss) (r : Result Unit Fault) (t : Scan D G) (scans : Scans (survey ss) r t) where
   pub found_fault : (f d : Fault) (x : Result Survey Fault) → r ≡ Err f → x ≡ Err d → d ≡ f → Told ss x
   unfolding Told
   found_fault f d x fails passed e =

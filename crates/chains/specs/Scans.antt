@@ -2,12 +2,14 @@
 use Rattle.std.specs.Prelude.{◌≡◌, ℕ, true, false, List, map, length, take, Ok, Err, Result}
 use Rattle.device.specs.declared.fault.Code.TheVariants.{BadLabel, NotReady}
 use Rattle.device.specs.declared.fault.Fault.{Fault}
+use Rattle.device.specs.declared.reading.ReadingDevice.{Ghosts}
 use Rattle.device.specs.Device.{Medium, device_fault}
 use Rattle.freespace.specs.Bits.{bit_of}
 use Rattle.chains.specs.declared.name_table.NameTable.{NameTable}
-use Rattle.chains.specs.declared.survey.Scan.{Scan}
+use Rattle.chains.specs.declared.scan.OpenDisk.{OpenDisk}
+use Rattle.chains.specs.declared.scan.Scan.{Scan}
 use Rattle.chains.specs.declared.survey.Survey.{Survey}
-use Rattle.chains.specs.Layout.{Layout, sized, member, numbers, chains}
+use Rattle.chains.specs.Layout.{Disk, Layout, sized, member, numbers, chains}
 use Rattle.chains.specs.NameBytes.{name_bytes}
 use Rattle.chains.specs.Reading.{among, reading}
 use Rattle.chains.specs.Sound.{entries}
@@ -16,13 +18,24 @@ use Rattle.chains.specs.Survey.{Seen, Tells, structure_fault}
 abbrev pub listed_names : NameTable → List (List ℕ)
 listed_names t = map name_bytes (take t.count t.names)
 
-abbrev pub seen_of : Scan → Seen
-seen_of s = record { met = bit_of s.met.bits; names = λ n. among n (listed_names s.names); files = s.names.count }
+module _ {D : Type 0} {G : Ghosts D} where
+  -- the sectors that are read
+  abbrev pub disk_of : OpenDisk D G → Disk
+  disk_of d = (G.medium d.device.now).sectors
 
--- a part of the survey that was done by code: the same fault, or the scan as the survey says
-abbrev pub Scans : Result Seen Fault → Result Unit Fault → Scan → Type 0
-Scans (Err f) r s = r ≡ Err f
-Scans (Ok x) r s = (r ≡ Ok tt) × (seen_of s ≡ x)
+  -- the same device is lent, with the same medium and the same size
+  pub record Keeps (d e : OpenDisk D G) : Type 0 where
+    pub device : e.device.ghost_name ≡ d.device.ghost_name
+    pub medium : G.medium e.device.now ≡ G.medium d.device.now
+    pub size : e.size ≡ d.size
+
+  abbrev pub seen_of : Scan D G → Seen
+  seen_of s = record { met = bit_of s.met.bits; names = λ n. among n (listed_names s.names); files = s.names.count }
+
+  -- a part of the survey that was done by code: the same fault, or the scan as the survey says
+  abbrev pub Scans : Result Seen Fault → Result Unit Fault → Scan D G → Type 0
+  Scans (Err f) r s = r ≡ Err f
+  Scans (Ok x) r s = (r ≡ Ok tt) × (seen_of s ≡ x)
 
 -- the survey of a disk that is laid out so
 pub record Shows (d : Layout) (s : Survey) : Type 0 where
@@ -34,3 +47,7 @@ pub record DiskRead (m : Medium) (r : Result Survey Fault) : Type 0 where
   pub unfit : sized (length m.sectors) ≡ false → r ≡ Err (structure_fault BadLabel 0)
   pub open_door : sized (length m.sectors) ≡ true → m.door ≡ true → r ≡ Err (device_fault NotReady)
   pub found : sized (length m.sectors) ≡ true → m.door ≡ false → Tells Shows (reading m.sectors) r
+
+-- an answer that tells what is read, under a name that stays shut: a goal that compares two disks does not read them
+unfoldable pub Told : Disk → Result Survey Fault → Type 0
+Told ss r = Tells Shows (reading ss) r

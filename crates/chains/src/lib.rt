@@ -18,6 +18,7 @@ mod name;
 mod name_table;
 mod place;
 mod saving;
+mod scan;
 mod survey;
 mod walk;
 
