@@ -9,27 +9,22 @@ use Rattle.chains.specs.Fresh.{map_sector_bytes}
 use Rattle.chains.specs.Reading.{sector_at}
 use Rattle.chains.specs.Survey.{need, directory_framed, directory_on, map_on}
 
-pub fetched_same : (a b : Sector) → ◌≡◌ {A = Result Sector Fault} (Ok a) (Ok b) → a ≡ b
-fetched_same a b e = cc
-
 module _ (ss : Disk) where
-  -- sector i of n was fetched as s, and what is left gives the whole
-  module _ (now : Disk) (same_disk : now ≡ ss) (n i : ℕ) (w : Result Unit Fault) (below : i < n) (s : Sector) where
+  -- s is sector i of n, and what is left gives the whole
+  module _ (n i : ℕ) (w : Result Unit Fault) (below : i < n) (s : Sector) where
     one_left : n - i ≡ suc (n - (i + 1))
     one_left = omega arith
 
-    pub directory_more : (b : Bool) → ◌≡◌ {A = Result Sector Fault} (Ok s) (Ok (sector_at now (4 + i))) → b ≡ directory_framed i s → directory_on ss (n - i) i ≡ w → need b PointerError (4 + i) (directory_on ss (n - (i + 1)) (i + 1)) ≡ w
+    pub directory_more : (b : Bool) → s ≡ sector_at ss (4 + i) → b ≡ directory_framed i s → directory_on ss (n - i) i ≡ w → need b PointerError (4 + i) (directory_on ss (n - (i + 1)) (i + 1)) ≡ w
     unfolding directory_on
-    directory_more b got e rest =
-        let here : s ≡ sector_at ss (4 + i) = fetched_same s (sector_at now (4 + i)) got ∙ ap (λ (d : Disk). sector_at d (4 + i)) same_disk in
+    directory_more b here e rest =
         ap (λ (x : Bool). need x PointerError (4 + i) (directory_on ss (n - (i + 1)) (i + 1))) (e ∙ ap (λ (x : Sector). directory_framed i x) here)
         ∙ ap (λ (k : ℕ). directory_on ss k i) (sym one_left)
         ∙ rest
 
-    pub map_more : (m : ℕ → Bool) (bytes : List ℕ) (b : Bool) → ◌≡◌ {A = Result Sector Fault} (Ok s) (Ok (sector_at now (1 + i))) → bytes ≡ map_sector_bytes m i → b ≡ same s.bytes bytes → map_on ss m (n - i) i ≡ w → need b MapWrong (1 + i) (map_on ss m (n - (i + 1)) (i + 1)) ≡ w
+    pub map_more : (m : ℕ → Bool) (bytes : List ℕ) (b : Bool) → s ≡ sector_at ss (1 + i) → bytes ≡ map_sector_bytes m i → b ≡ same s.bytes bytes → map_on ss m (n - i) i ≡ w → need b MapWrong (1 + i) (map_on ss m (n - (i + 1)) (i + 1)) ≡ w
     unfolding map_on
-    map_more m bytes b got made e rest =
-        let here : s ≡ sector_at ss (1 + i) = fetched_same s (sector_at now (1 + i)) got ∙ ap (λ (d : Disk). sector_at d (1 + i)) same_disk in
+    map_more m bytes b here made e rest =
         ap (λ (x : Bool). need x MapWrong (1 + i) (map_on ss m (n - (i + 1)) (i + 1)))
         (e ∙ ap (λ (xs : List ℕ). same s.bytes xs) made ∙ ap (λ (x : Sector). same x.bytes (map_sector_bytes m i)) here)
         ∙ ap (λ (k : ℕ). map_on ss m k i) (sym one_left)

@@ -38,15 +38,14 @@ records_done ss at name s d count last field end met there counts lasts w e f =
 
 -- the descriptor that was fetched is the place's
 pub descriptor_done :
-    (ss now : Disk) (same_disk : now ≡ ss) (at : ℕ) (name bs : List ℕ) (s : Seen) (d : Sector) →
+    (ss : Disk) (at : ℕ) (name bs : List ℕ) (s : Seen) (d : Sector) →
     ◌≡◌ {A = Result Sector Fault} (Ok d) (Ok (sector_at ss at)) → true ≡ named_as d bs → true ≡ descriptor_shaped d →
-    records_from now at name s ≡ descriptor_from ss at name bs s
-descriptor_done ss now same_disk at name bs s d got named shaped =
+    records_from ss at name s ≡ descriptor_from ss at name bs s
+descriptor_done ss at name bs s d got named shaped =
     let there : d ≡ sector_at ss at = cc in
-    let right : named_as (sector_at ss at) bs ≡ true = ap (λ (x : Sector). named_as x bs) (sym there) ∙ sym named in
-    let fine : descriptor_shaped (sector_at ss at) ≡ true = ap (λ (x : Sector). descriptor_shaped x) (sym there) ∙ sym shaped in
-    ap (λ (x : Disk). records_from x at name s) same_disk
-    ∙ sym (λ i. need (right i) NotInDirectory at (need (fine i) PointerError at (records_from ss at name s)))
+    let right : true ≡ named_as (sector_at ss at) bs = named ∙ ap (λ (x : Sector). named_as x bs) there in
+    let fine : true ≡ descriptor_shaped (sector_at ss at) = shaped ∙ ap (λ (x : Sector). descriptor_shaped x) there in
+    λ i. need (right i) NotInDirectory at (need (fine i) PointerError at (records_from ss at name s))
 
 -- ---- from the bytes of a place to the descriptor
 

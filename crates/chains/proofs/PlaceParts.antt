@@ -23,11 +23,11 @@ module _ {D : Type 0} {G : Ghosts D} where
   scanned_err (Ok s) t f e = let z : ◌≡◌ {A = ℕ} 0 1 = cc e.0 in absurd (omega arith)
 
   -- a part that failed, whose fault is handed on as x
-  pub passed_on : (w y : Result Seen Fault) (k : Seen → Result Seen Fault) (r x : Result Unit Fault) (t : Scan D G) (f d : Fault) → next y k ≡ w → Scans y r t → r ≡ Err f → x ≡ Err d → d ≡ f → Scans w x t
-  passed_on w y k r x t f d rest scans fails passed e =
+  pub passed_on : (w y : Result Seen Fault) (k : Seen → Result Seen Fault) (r x : Result Unit Fault) (t : Scan D G) (f : Fault) → next y k ≡ w → Scans y r t → r ≡ Err f → x ≡ Err f → Scans w x t
+  passed_on w y k r x t f rest scans fails passed =
       let fault : y ≡ Err f = scanned_err y t f (subst (λ (z : Result Unit Fault). Scans y z t) fails scans) in
       let whole : Err f ≡ w = ap (λ (z : Result Seen Fault). next z k) (sym fault) ∙ rest in
-      subst (λ (z : Result Seen Fault). Scans z x t) whole (passed ∙ ap (λ (z : Fault). Err z) e)
+      subst (λ (z : Result Seen Fault). Scans z x t) whole passed
 
   -- a part that was done, and the rest goes on from there
   pub gone_on : (w y : Result Seen Fault) (k : Seen → Result Seen Fault) (r : Result Unit Fault) (t : Scan D G) → next y k ≡ w → Scans y r t → r ≡ Ok tt → k (seen_of t) ≡ w
@@ -80,10 +80,11 @@ module _ (ss : Disk) where
       ∙ ap (λ (k : ℕ). places_on ss k (3 * i) s) split
 
   -- place j of directory sector i, as its bytes
-  pub place_more : (now : Disk) → now ≡ ss → (i j : ℕ) (d : Sector) (places : List (List ℕ)) (s : Seen) → j < 3 → length d.bytes ≡ 128 → d ≡ sector_at ss (4 + i) → places ≡ first_chunks 40 (length d.bytes / 40) d.bytes →
+  pub place_more : (now : Disk) → now ≡ ss → (i j : ℕ) (d : Sector) (places : List (List ℕ)) (s : Seen) → j < 3 → length d.bytes ≡ 128 → ◌≡◌ {A = Result Sector Fault} (Ok d) (Ok (sector_at ss (4 + i))) → places ≡ first_chunks 40 (length d.bytes / 40) d.bytes →
       next (place_on now s (4 + i) (get_or places j [])) (λ t. places_on ss (3 - (j + 1)) (3 * i + (j + 1)) t) ≡ places_on ss (3 - j) (3 * i + j) s
   unfolding places_on
-  place_more now same_disk i j d places s below whole there chunks =
+  place_more now same_disk i j d places s below whole got chunks =
+      let there : d ≡ sector_at ss (4 + i) = cc in
       let bytes : get_or places j [] ≡ take 40 (drop (40 * j) d.bytes) = ap (λ (x : List (List ℕ)). get_or x j []) chunks ∙ chunk_at (length d.bytes / 40) d.bytes j (omega arith) in
       let row : i ≡ (3 * i + j) / 3 = omega arith in
       let column : j ≡ (3 * i + j) % 3 = omega arith in

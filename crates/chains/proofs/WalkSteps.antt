@@ -10,9 +10,6 @@ use Rattle.chains.specs.Reading.{sector_at, usable}
 use Rattle.chains.specs.Survey.{WalkEnd, walk_on, structure_fault, need, also}
 use Rattle.chains.specs.Walks.{Leads, Steps, Walks}
 
-same_sector : {a b : Sector} → ◌≡◌ {A = Result Sector Fault} (Ok a) (Ok b) → a ≡ b
-same_sector e = cc
-
 module _ (ss : Disk) (met : ℕ → Bool) (l : Link) (leads : Leads ss l) where
   abbrev after_step : ℕ → Bool → Result WalkEnd Fault
   after_step k back = need back PointerError l.to (walk_on ss (also l.to met) l.to k)
@@ -26,20 +23,17 @@ module _ (ss : Disk) (met : ℕ → Bool) (l : Link) (leads : Leads ss l) where
   pub step_refused : false ≡ (usable ss l.to && not (met l.to)) → (k : ℕ) → walk_on ss met l.from (suc k) ≡ Err (structure_fault PointerError l.from)
   step_refused e k = step_is k e
 
-  -- the sector there was fetched as s
-  module _ (fits : true ≡ (usable ss l.to && not (met l.to))) (now : Disk) (same : now ≡ ss) (s : Sector) (got : ◌≡◌ {A = Result Sector Fault} (Ok s) (Ok (sector_at now l.to))) where
-    there : sector_at ss l.to ≡ s
-    there = sym (same_sector got ∙ ap (λ (d : Disk). sector_at d l.to) same)
-
+  -- the sector there is s
+  module _ (fits : true ≡ (usable ss l.to && not (met l.to))) (s : Sector) (there : s ≡ sector_at ss l.to) where
     step_by_back : (k : ℕ) {b : Bool} → eqb s.back l.from ≡ b → walk_on ss met l.from (suc k) ≡ after_step k b
-    step_by_back k e = step_is k fits ∙ ap (after_step k) (ap (λ (x : Sector). eqb x.back l.from) there ∙ e)
+    step_by_back k e = step_is k fits ∙ ap (after_step k) (ap (λ (x : Sector). eqb x.back l.from) (sym there) ∙ e)
 
     pub step_wrong : (s.back ≡ l.from → ⊥) → (k : ℕ) → walk_on ss met l.from (suc k) ≡ Err (structure_fault PointerError l.to)
     step_wrong ne k = step_by_back k (ne_eqb s.back l.from ne)
 
     pub step_right : s.back ≡ l.from → (after : ℕ → Bool) → after ≡ also l.to met → Steps ss met l (Ok (record { from = l.to; to = s.forward })) after
     step_right back after e = (
-      sym (ap (λ (x : Sector). x.forward) there),
+      ap (λ (x : Sector). x.forward) there,
       λ k. step_by_back k (eq-eqb s.back l.from back) ∙ ap (λ (f : ℕ → Bool). walk_on ss f l.to k) (sym e),
     )
 
@@ -52,10 +46,10 @@ module _ (ss : Disk) (met : ℕ → Bool) (l : Link) (i count : ℕ) (w : Result
     begins : walk_on ss met l.from (suc (count - (i + 1))) ≡ w
     begins = let one_left : count - i ≡ suc (count - (i + 1)) = omega arith in ap (λ (k : ℕ). walk_on ss met l.from k) (sym one_left) ∙ rest
 
-    pub walk_fails : (f d : Fault) (x : Result ℕ Fault) (m : ℕ → Bool) → r ≡ Err f → x ≡ Err d → d ≡ f → Walks w x m
-    walk_fails f d x m fails passed e =
+    pub walk_fails : (f : Fault) (x : Result ℕ Fault) (m : ℕ → Bool) → r ≡ Err f → x ≡ Err f → Walks w x m
+    walk_fails f x m fails passed =
         let fault : Err f ≡ w = sym (steps_so fails (count - (i + 1))) ∙ begins in
-        subst (λ (y : Result WalkEnd Fault). Walks y x m) fault (passed ∙ ap (λ (y : Fault). Err y) e)
+        subst (λ (y : Result WalkEnd Fault). Walks y x m) fault passed
 
     pub walk_goes_on : (n : Link) → r ≡ Ok n → Leads ss n × (walk_on ss after n.from (count - (i + 1)) ≡ w)
     walk_goes_on n e =

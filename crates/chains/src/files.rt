@@ -25,7 +25,6 @@ impl<D: ReadingDevice> Scan<'_, D> {
     // Goes along the records of a file whose descriptor is met already, and notes its name.
     fn read_records(&mut self, place: &Place, descriptor: &Sector) -> Result<(), Fault>
         requires few { self.old.names.count < 96 }
-        requires whole { WellFormed descriptor.now }
         requires there { descriptor.now ≡ sector_at (disk_of self.old.disk) place.now.at }
         ensures scans { Scans (records_from (disk_of self.old.disk) place.now.at (name_bytes place.now.name) (seen_of self.old)) result self.new }
         ensures count { self.new.names.count ≤ self.old.names.count + 1 }

@@ -41,22 +41,6 @@ impl Survey {
 
 impl<D: ReadingDevice> Scan<'_, D> {
     // Reads the three places of directory sector i.
-    fn read_sector_places(&mut self, i: u16, sector: &Sector) -> Result<(), Fault>
-        requires few { self.old.names.count + 3 ≤ 96 }
-        requires below { i < 32 }
-        requires whole { WellFormed sector.now }
-        requires there { sector.now ≡ sector_at (disk_of self.old.disk) (4 + i) }
-        ensures scans { Scans (places_on (disk_of self.old.disk) 3 (3 * i) (seen_of self.old)) result self.new }
-        ensures count { self.new.names.count ≤ self.old.names.count + 3 }
-        ensures same { Keeps self.old.disk self.new.disk }
-    {
-        let (places, _) = sector.bytes.as_chunks::<40>();
-        for place in places {
-            self.read_place(DIRECTORY_START + i, place)?;
-        }
-        Ok(())
-    }
-
     fn read_directory_sector(&mut self, i: u16) -> Result<(), Fault>
         requires few { self.old.names.count + 3 ≤ 96 }
         requires below { i < 32 }
@@ -65,7 +49,11 @@ impl<D: ReadingDevice> Scan<'_, D> {
         ensures same { Keeps self.old.disk self.new.disk }
     {
         let sector = self.disk.fetch(DIRECTORY_START + i)?;
-        self.read_sector_places(i, &sector)
+        let (places, _) = sector.bytes.as_chunks::<40>();
+        for place in places {
+            self.read_place(DIRECTORY_START + i, place)?;
+        }
+        Ok(())
     }
 
     // Reads all places of the directory.
@@ -105,28 +93,6 @@ impl<D: ReadingDevice> Scan<'_, D> {
     }
 }
 
-// Gives the device's own fault where its door is open.
-fn refuse_open_door<D: ReadingDevice>(device: &mut D) -> Result<(), Fault>
-    requires { 0 < length (D.ReadingDevice.medium device.old).sectors }
-    ensures value { result ≡ (if (D.ReadingDevice.medium device.old).door then Err (device_fault not_ready) else Ok tt) }
-    ensures same { D.ReadingDevice.medium device.new ≡ D.ReadingDevice.medium device.old }
-{
-    device.read(0)?;
-    Ok(())
-}
-
-// Reads a disk whose size is a disk's and whose door is closed.
-fn read_closed<D: ReadingDevice>(device: &mut D, size: u16) -> Result<Survey, Fault>
-    requires ready { Readable (D.ReadingDevice.medium device.old) }
-    requires sized { size ≡ length (D.ReadingDevice.medium device.old).sectors }
-    ensures found { Told (D.ReadingDevice.medium device.old).sectors result }
-    ensures same { D.ReadingDevice.medium device.new ≡ D.ReadingDevice.medium device.old }
-{
-    let mut scan = Scan::new(OpenDisk { device, size });
-    scan.survey()?;
-    Ok(scan.into_survey())
-}
-
 // Reads a whole disk. Refuses a size that no label can hold, then as the device does.
 pub fn read_disk<D: ReadingDevice>(device: &mut D) -> Result<Survey, Fault>
     ensures value { DiskRead (D.ReadingDevice.medium device.old) result }
@@ -136,6 +102,9 @@ pub fn read_disk<D: ReadingDevice>(device: &mut D) -> Result<Survey, Fault>
     if !is_disk_size(size) {
         return Err(structure_fault(Code::BadLabel, 0));
     }
-    refuse_open_door(device)?;
-    read_closed(device, size)
+    // An open door is refused here.
+    device.read(0)?;
+    let mut scan = Scan::new(OpenDisk { device, size });
+    scan.survey()?;
+    Ok(scan.into_survey())
 }

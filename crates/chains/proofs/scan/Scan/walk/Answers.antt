@@ -1,7 +1,7 @@
-use Rattle.std.proofs.Common.{◌≡◌, sym, ap, ◌∙◌, arith, rules}
-use Rattle.std.proofs.lemmas.Result.{err_from_is_err_and}
+use Rattle.std.proofs.Common.{sym, ap, ◌∙◌, arith, rules}
 use Rattle.device.specs.Device.{Medium}
 use Rattle.chains.specs.Reading.{sector_at}
+use Rattle.chains.proofs.Keeping.{same_disk, handed}
 use Rattle.chains.proofs.WalkSteps.{walk_fails, walk_goes_on, walk_unended, walk_ended}
 use Rattle.chains.proofs.scan.Scan.walk.Goals as goal
 
@@ -10,12 +10,11 @@ step-requires g c = c.loop.invariant.2 ∙ ap (λ (m : Medium). (sector_at m.sec
 
 pub returns-in_err-link-clause-walks : goal.returns-in_err-link-clause-walks
 returns-in_err-link-clause-walks g c =
-    let p = err_from_is_err_and {Q = λ e. e ≡ c.in_err-link.field-0.0} c.from_residual.result c.from_residual.ensures.1 in
-    walk_fails _ _ c.loop.link c.loop.counter c.args.count _ c.loop.invariant.3 (omega arith) _ (ap (λ (m : Medium). m.sectors) c.loop.invariant.0.medium) _ _ c.step.ensures.steps _ _ c.from_residual.result _ c.in_err-link.was p.1 p.2
+    walk_fails _ _ c.loop.link c.loop.counter c.args.count _ c.loop.invariant.3 (omega arith) _ (same_disk c.loop.invariant.0) _ _ c.step.ensures.steps _ c.from_residual.result _ c.in_err-link.was (handed c.from_residual.result c.from_residual.ensures.1)
 
 pub loop-preserved : goal.loop-preserved
 loop-preserved g c =
-    let t = walk_goes_on _ _ c.loop.link c.loop.counter c.args.count _ c.loop.invariant.3 (omega arith) _ (ap (λ (m : Medium). m.sectors) c.loop.invariant.0.medium) _ _ c.step.ensures.steps _ c.in_ok-link.was in
+    let t = walk_goes_on _ _ c.loop.link c.loop.counter c.args.count _ c.loop.invariant.3 (omega arith) _ (same_disk c.loop.invariant.0) _ _ c.step.ensures.steps _ c.in_ok-link.was in
     (search rules, search rules, t.0, t.1)
 
 pub returns-then-link-clause-walks : goal.returns-then-link-clause-walks
