@@ -13,8 +13,7 @@ use Rattle.chains.specs.declared.survey.Survey.{Survey}
 use Rattle.chains.specs.Layout.{Disk, Layout, sized}
 use Rattle.chains.specs.Reading.{Found, fault, read, reading}
 use Rattle.chains.specs.Survey.{Seen, SumsUp, Tells, structure_fault, survey}
-use Rattle.chains.specs.Readable.{Readable}
-use Rattle.chains.specs.Scans.{DiskRead, Scans, Shows, Told, seen_of}
+use Rattle.chains.specs.Scans.{DiskRead, Scans, Shows, seen_of}
 use Rattle.chains.proofs.PlaceParts.{scanned_ok, scanned_err}
 use Rattle.chains.proofs.SurveyTold.{survey_tells}
 
@@ -25,6 +24,10 @@ fails_so (read d) f t = t
 shows_so : (x : Found Layout) (s : Seen) (v : Survey) → v.files ≡ s.files → bit_of v.used.bits ≡ s.met → Tells SumsUp x (Ok s) → Tells Shows x (Ok v)
 shows_so (fault c n) s v files used t = t
 shows_so (read d) s v files used t = record { files = files ∙ t.files; used = λ n. ap (λ (f : ℕ → Bool). f n) used ∙ t.met n }
+
+-- an answer that tells what is read, under a name that stays shut: a goal that compares two disks does not read them
+unfoldable pub Told : Disk → Result Survey Fault → Type 0
+Told ss r = Tells Shows (reading ss) r
 
 module _ {D : Type 0} {G : Ghosts D} (ss : Disk) (whole : AllByRecursion WellFormed ss) (r : Result Unit Fault) (t : Scan D G) (scans : Scans (survey ss) r t) where
   pub found_fault : (f : Fault) (x : Result Survey Fault) → r ≡ Err f → x ≡ Err f → Told ss x
@@ -68,13 +71,11 @@ module _ (m : Medium) (size : ℕ) (counts : size ≡ length m.sectors) where
 
   -- sector 0 was asked for
   module _ (fits : true ≡ sized size) (r : Result Sector Fault) (value : r ≡ fetched m 0) where
-    within : (64 ≤ length m.sectors) × (length m.sectors ≤ 2464)
-    within =
-        let parts = and_parts (leb 64 (length m.sectors)) (leb (length m.sectors) 2464) (size_is fits) in
-        (leb-true 64 (length m.sectors) parts.0, leb-true (length m.sectors) 2464 parts.1)
+    least : 64 ≤ length m.sectors
+    least = leb-true 64 (length m.sectors) (and_parts (leb 64 (length m.sectors)) (leb (length m.sectors) 2464) (size_is fits)).0
 
     by_door : r ≡ cond m.door (Err (device_fault NotReady)) (Ok (get_or m.sectors 0 blank))
-    by_door = let some : ltb 0 (length m.sectors) ≡ true = let w = within.0 in lt-ltb 0 (length m.sectors) (omega arith) in value ∙ simp some
+    by_door = let some : ltb 0 (length m.sectors) ≡ true = let w = least in lt-ltb 0 (length m.sectors) (omega arith) in value ∙ simp some
 
     pub refuses_door : (f : Fault) (x : Result Survey Fault) → r ≡ Err f → x ≡ Err f → DiskRead m x
     refuses_door f x fails passed =
@@ -89,14 +90,11 @@ module _ (m : Medium) (size : ℕ) (counts : size ≡ length m.sectors) where
       is_closed : m.door ≡ false
       is_closed = ok_only_closed m.door s _ (sym fine ∙ by_door)
 
-      pub is_readable : AllByRecursion WellFormed m.sectors → Readable m
-      is_readable whole = record { closed = is_closed; whole = whole; long = within.0; short = within.1 }
-
-      pub reads_on : (after : Medium) → after ≡ m → (x : Result Survey Fault) → Told after.sectors x → DiskRead m x
+      pub reads_on : (ss : Disk) → ss ≡ m.sectors → (x : Result Survey Fault) → Told ss x → DiskRead m x
       unfolding Told
-      reads_on after same_medium x told =
+      reads_on ss same_disk x told =
           record {
             unfit = λ t. true_is_not_false (sym (size_is fits) ∙ t);
             open_door = λ _ opened. true_is_not_false (sym opened ∙ is_closed);
-            found = λ _ _. subst (λ (y : Medium). Tells Shows (reading y.sectors) x) same_medium told;
+            found = λ _ _. subst (λ (d : Disk). Tells Shows (reading d) x) same_disk told;
           }

@@ -47,7 +47,3 @@ pub record DiskRead (m : Medium) (r : Result Survey Fault) : Type 0 where
   pub unfit : sized (length m.sectors) ≡ false → r ≡ Err (structure_fault BadLabel 0)
   pub open_door : sized (length m.sectors) ≡ true → m.door ≡ true → r ≡ Err (device_fault NotReady)
   pub found : sized (length m.sectors) ≡ true → m.door ≡ false → Tells Shows (reading m.sectors) r
-
--- an answer that tells what is read, under a name that stays shut: a goal that compares two disks does not read them
-unfoldable pub Told : Disk → Result Survey Fault → Type 0
-Told ss r = Tells Shows (reading ss) r

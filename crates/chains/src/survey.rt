@@ -1,18 +1,14 @@
 // Reading a whole disk: the first fault in a fixed order, or how many files there are and which sectors they use.
-ghost use Rattle.std.specs.Prelude.{◌≡◌, ℕ, ◌+◌, ◌*◌, ◌<◌, ◌≤◌, not, ◌&&◌, length, if◌then◌else◌, Ok, Err, nat_le, nat_lt};
-ghost use Rattle.device.specs.declared.fault.Code.TheVariants.{NotReady as not_ready};
-ghost use Rattle.device.specs.Device.{WellFormed, device_fault};
+ghost use Rattle.std.specs.Prelude.{◌≡◌, ℕ, ◌+◌, ◌*◌, ◌<◌, ◌≤◌, not, ◌&&◌, if◌then◌else◌, nat_le, nat_lt};
 ghost use Rattle.freespace.specs.Bits.{bit_of};
 ghost use Rattle.chains.specs.Layout.{reserved};
-ghost use Rattle.chains.specs.Reading.{sector_at};
 ghost use Rattle.chains.specs.Survey.{nothing_seen, places_on, survey};
-ghost use Rattle.chains.specs.Scans.{DiskRead, Keeps, Scans, Told, disk_of, seen_of};
-ghost use Rattle.chains.specs.Readable.{Readable};
+ghost use Rattle.chains.specs.Scans.{DiskRead, Keeps, Scans, disk_of, seen_of};
 
 use crate::layout::{DIRECTORY_SECTORS, DIRECTORY_START, RESERVED, is_disk_size};
 use crate::scan::{OpenDisk, Scan};
 use crate::walk::structure_fault;
-use device::{Code, Fault, ReadingDevice, Sector};
+use device::{Code, Fault, ReadingDevice};
 use freespace::{BitMap, SectorAllocator, fill_unused};
 
 // What a disk without a fault holds.
