@@ -12,9 +12,8 @@ use Rattle.chains.specs.declared.scan.Scan.{Scan}
 use Rattle.chains.specs.declared.survey.Survey.{Survey}
 use Rattle.chains.specs.Layout.{Disk, Layout, sized}
 use Rattle.chains.specs.Reading.{Found, fault, read, reading}
-use Rattle.chains.specs.Survey.{Seen, SumsUp, Tells, structure_fault, survey}
+use Rattle.chains.specs.Survey.{Seen, SumsUp, Tells, next, structure_fault, survey}
 use Rattle.chains.specs.Scans.{DiskRead, Scans, Shows, seen_of}
-use Rattle.chains.proofs.PlaceParts.{scanned_ok, scanned_err}
 use Rattle.chains.proofs.SurveyTold.{survey_tells}
 
 fails_so : (x : Found Layout) (f : Fault) → Tells SumsUp x (Err f) → Tells Shows x (Err f)
@@ -33,15 +32,14 @@ module _ {D : Type 0} {G : Ghosts D} (ss : Disk) (whole : AllByRecursion WellFor
   pub found_fault : (f : Fault) (x : Result Survey Fault) → r ≡ Err f → x ≡ Err f → Told ss x
   unfolding Told
   found_fault f x fails passed =
-      let told : survey ss ≡ Err f = scanned_err (survey ss) t f (subst (λ (y : Result Unit Fault). Scans (survey ss) y t) fails scans) in
-      let same_fault : Err f ≡ x = sym passed in
-      subst (λ (y : Result Survey Fault). Tells Shows (reading ss) y) same_fault
+      let told : survey ss ≡ Err f = scans ∙ ap (λ (y : Result Unit Fault). next y (λ _. Ok (seen_of t))) fails in
+      subst (λ (y : Result Survey Fault). Tells Shows (reading ss) y) (sym passed)
       (fails_so (reading ss) f (subst (λ (y : Result Seen Fault). Tells SumsUp (reading ss) y) told (survey_tells ss whole)))
 
   pub found_files : (v : Survey) → r ≡ Ok tt → v.files ≡ (seen_of t).files → bit_of v.used.bits ≡ (seen_of t).met → Told ss (Ok v)
   unfolding Told
   found_files v fine files used =
-      let told : survey ss ≡ Ok (seen_of t) = scanned_ok (survey ss) t (subst (λ (y : Result Unit Fault). Scans (survey ss) y t) fine scans) in
+      let told : survey ss ≡ Ok (seen_of t) = scans ∙ ap (λ (y : Result Unit Fault). next y (λ _. Ok (seen_of t))) fine in
       shows_so (reading ss) (seen_of t) v files used (subst (λ (y : Result Seen Fault). Tells SumsUp (reading ss) y) told (survey_tells ss whole))
 
 -- ---- the size and the door come first

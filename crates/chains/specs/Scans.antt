@@ -13,7 +13,7 @@ use Rattle.chains.specs.Layout.{Disk, Layout, sized, member, numbers, chains}
 use Rattle.chains.specs.NameBytes.{name_bytes}
 use Rattle.chains.specs.Reading.{among, reading}
 use Rattle.chains.specs.Sound.{entries}
-use Rattle.chains.specs.Survey.{Seen, Tells, structure_fault}
+use Rattle.chains.specs.Survey.{Seen, Tells, next, structure_fault}
 
 abbrev pub listed_names : NameTable → List (List ℕ)
 listed_names t = map name_bytes (take t.count t.names)
@@ -34,8 +34,7 @@ module _ {D : Type 0} {G : Ghosts D} where
 
   -- a part of the survey that was done by code: the same fault, or the scan as the survey says
   abbrev pub Scans : Result Seen Fault → Result Unit Fault → Scan D G → Type 0
-  Scans (Err f) r s = r ≡ Err f
-  Scans (Ok x) r s = (r ≡ Ok tt) × (seen_of s ≡ x)
+  Scans x r s = x ≡ next r (λ _. Ok (seen_of s))
 
 -- the survey of a disk that is laid out so
 pub record Shows (d : Layout) (s : Survey) : Type 0 where

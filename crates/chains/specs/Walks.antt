@@ -4,7 +4,7 @@ use Rattle.device.specs.declared.fault.Fault.{Fault}
 use Rattle.chains.specs.declared.walk.Link.{Link}
 use Rattle.chains.specs.Layout.{Disk}
 use Rattle.chains.specs.Reading.{sector_at}
-use Rattle.chains.specs.Survey.{WalkEnd, walk_on}
+use Rattle.chains.specs.Survey.{WalkEnd, next, walk_on}
 
 -- the link is the forward link of the sector it is from
 abbrev pub Leads : Disk → Link → Type 0
@@ -17,5 +17,4 @@ Steps ss met l (Ok n) after = Leads ss n × ((k : ℕ) → walk_on ss met l.from
 
 -- a walk that was done by code: the same fault, or the sector where it ended and the sectors met by then
 abbrev pub Walks : Result WalkEnd Fault → Result ℕ Fault → (ℕ → Bool) → Type 0
-Walks (Err f) r met = r ≡ Err f
-Walks (Ok w) r met = (r ≡ Ok w.at) × (met ≡ w.met)
+Walks w r met = w ≡ next r (λ n. Ok (record { at = n; met = met }))

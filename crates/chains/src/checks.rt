@@ -44,6 +44,7 @@ impl<D: ReadingDevice> OpenDisk<'_, D> {
         }
     }
 
+    #[tactic(auto, using(crate::proofs::CheckParts::directory_step, crate::proofs::CheckParts::directory_end))]
     pub(crate) fn check_directory(&mut self) -> Result<(), Fault>
         ensures value { result ≡ directory_on (disk_of self.old) 32 0 }
         ensures same { Keeps self.old self.new }
@@ -57,6 +58,7 @@ impl<D: ReadingDevice> OpenDisk<'_, D> {
         Ok(())
     }
 
+    #[tactic(auto, using(crate::proofs::CheckParts::map_end))]
     pub(crate) fn check_map(&mut self, met: &BitMap) -> Result<(), Fault>
         ensures value { result ≡ map_on (disk_of self.old) (to_be_marked (length (disk_of self.old)) (bit_of met.now.bits)) 3 0 }
         ensures same { Keeps self.old self.new }

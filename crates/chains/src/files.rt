@@ -69,6 +69,7 @@ impl<D: ReadingDevice> Scan<'_, D> {
     }
 
     // Takes the name and the descriptor's sector from the bytes of a place, and notes that sector.
+    #[tactic(auto, using(crate::proofs::FileParts::file_is))]
     fn enter_file(&mut self, from: u16, bytes: &[u8; 40]) -> Result<Place, Fault>
         ensures enters { Enters (disk_of self.old.disk) (seen_of self.old) from bytes.now result (seen_of self.new) }
         ensures names { self.new.names ≡ self.old.names }

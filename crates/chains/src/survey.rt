@@ -37,6 +37,7 @@ impl Survey {
 
 impl<D: ReadingDevice> Scan<'_, D> {
     // Reads the three places of directory sector i.
+    #[tactic(auto, using(crate::proofs::PlaceParts::place_more, crate::proofs::PlaceParts::place_over))]
     fn read_directory_sector(&mut self, i: u16) -> Result<(), Fault>
         requires few { self.old.names.count + 3 ≤ 96 }
         requires below { i < 32 }
@@ -53,6 +54,7 @@ impl<D: ReadingDevice> Scan<'_, D> {
     }
 
     // Reads all places of the directory.
+    #[tactic(auto, using(crate::proofs::PlaceParts::sector_more, crate::proofs::PlaceParts::sector_over))]
     fn read_places(&mut self) -> Result<(), Fault>
         requires { self.old.names.count ≡ 0 }
         ensures scans { Scans (places_on (disk_of self.old.disk) 96 0 (seen_of self.old)) result self.new }
@@ -65,6 +67,7 @@ impl<D: ReadingDevice> Scan<'_, D> {
     }
 
     // Label, directory, places with their files, map.
+    #[tactic(auto, using(crate::proofs::SurveyParts::survey_is))]
     fn survey(&mut self) -> Result<(), Fault>
         requires { seen_of self.old ≡ nothing_seen }
         ensures scans { Scans (survey (disk_of self.old.disk)) result self.new }

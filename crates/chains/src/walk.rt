@@ -41,6 +41,7 @@ impl<D: ReadingDevice> Scan<'_, D> {
     }
 
     // Goes along a link to a sector that must be met for the first time and lead back; answers the link from there.
+    #[tactic(auto, unfolding(crate::specs::Survey::walk_on))]
     fn step(&mut self, link: Link) -> Result<Link, Fault>
         requires { Leads (disk_of self.old.disk) link }
         ensures steps { Steps (disk_of self.old.disk) (bit_of self.old.met.bits) link result (bit_of self.new.met.bits) }
@@ -61,6 +62,7 @@ impl<D: ReadingDevice> Scan<'_, D> {
     }
 
     // Goes over as many records as the count says; answers the sector where it ends.
+    #[tactic(auto, using(crate::proofs::WalkSteps::walk_more, crate::proofs::WalkSteps::walk_over))]
     pub(crate) fn walk(&mut self, start: Link, count: u16) -> Result<u16, Fault>
         requires { Leads (disk_of self.old.disk) start }
         ensures walks { Walks (walk_on (disk_of self.old.disk) (bit_of self.old.met.bits) start.from count) result (bit_of self.new.met.bits) }

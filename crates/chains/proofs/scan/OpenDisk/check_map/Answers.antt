@@ -3,22 +3,20 @@ use Rattle.device.specs.declared.fault.Fault.{Fault}
 use Rattle.freespace.specs.Bits.{bit_of}
 use Rattle.chains.specs.Fresh.{map_sector_bytes}
 use Rattle.chains.specs.Survey.{to_be_marked}
-use Rattle.chains.proofs.CheckParts.{map_more, map_none}
 use Rattle.chains.proofs.Keeping.{keeps_on, fetched_from}
+use Rattle.chains.proofs.CheckParts.{map_more}
 use Rattle.chains.proofs.scan.OpenDisk.check_map.Goals as goal
 
 pub returns-then-not-same_bytes-clause-value : goal.returns-then-not-same_bytes-clause-value
 returns-then-not-same_bytes-clause-value g c =
     let made = c.map_bytes.ensures ∙ ap (λ (k : ℕ). map_sector_bytes (to_be_marked k (bit_of c.args.met.now.bits)) c.loop-j.j) c.args.self.now.sized in
     ap (λ (f : Fault). Err f) c.structure_fault.ensures
-    ∙ map_more _ 3 c.loop-j.j _ (omega arith) _ _ _ _ (fetched_from _ c.loop-j.invariant.0 c.in_ok-sector.ensures.value) made c.if-not-same_bytes.ensures c.loop-j.invariant.1
+    ∙ map_more _ 3 c.loop-j.j _ _ _ _ (omega arith) (fetched_from _ c.loop-j.invariant.0 c.in_ok-sector.ensures.value) made c.if-not-same_bytes.ensures
+    ∙ c.loop-j.invariant.1
 
 pub loop-j-preserved : goal.loop-j-preserved
 loop-j-preserved g c =
     let made = c.map_bytes.ensures ∙ ap (λ (k : ℕ). map_sector_bytes (to_be_marked k (bit_of c.args.met.now.bits)) c.loop-j.j) c.args.self.now.sized in (
       keeps_on c.loop-j.invariant.0 c.fetch.ensures.same,
-      map_more _ 3 c.loop-j.j _ (omega arith) _ _ _ _ (fetched_from _ c.loop-j.invariant.0 c.in_ok-sector.ensures.value) made c.if-not-same_bytes.ensures c.loop-j.invariant.1,
+      map_more _ 3 c.loop-j.j _ _ _ _ (omega arith) (fetched_from _ c.loop-j.invariant.0 c.in_ok-sector.ensures.value) made c.if-not-same_bytes.ensures ∙ c.loop-j.invariant.1,
     )
-
-pub returns-clause-value : goal.returns-clause-value
-returns-clause-value g c = map_none _ 3 c.loop-j.j _ (omega arith) _ c.loop-j.invariant.1

@@ -9,4 +9,4 @@ invariant-loop-i g l =
     let ss = disk_of l.initial.self.disk in
     Keeps l.initial.self.disk l.self.disk ×
     (l.self.names.count ≤ 3 * l.i) ×
-    (places_on ss (3 * 32 - 3 * l.i) (3 * l.i) (seen_of l.self) ≡ places_on ss 96 0 (seen_of l.initial.self))
+    (places_on ss (96 - 3 * l.i) (3 * l.i) (seen_of l.self) ≡ places_on ss 96 0 (seen_of l.initial.self))
