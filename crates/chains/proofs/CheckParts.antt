@@ -1,7 +1,6 @@
 -- One more sector of the directory or of the map, and what is left of them.
-use Rattle.std.proofs.Common.{◌≡◌, ℕ, suc, ◌+◌, ◌-◌, ◌<◌, ◌≤◌, Bool, List, Ok, Result, sym, ap, ◌∙◌, arith}
+use Rattle.std.proofs.Common.{◌≡◌, ℕ, suc, ◌+◌, ◌-◌, ◌<◌, ◌≤◌, Bool, List, Ok, ap, ◌∙◌, arith}
 use Rattle.device.specs.declared.fault.Code.TheVariants.{PointerError, MapWrong}
-use Rattle.device.specs.declared.fault.Fault.{Fault}
 use Rattle.device.specs.declared.sector.Sector.{Sector}
 use Rattle.chains.specs.Names.{same}
 use Rattle.chains.specs.Layout.{Disk}
@@ -9,39 +8,24 @@ use Rattle.chains.specs.Fresh.{map_sector_bytes}
 use Rattle.chains.specs.Reading.{sector_at}
 use Rattle.chains.specs.Survey.{need, directory_framed, directory_on, map_on}
 
-pub fetched_same : (a b : Sector) → ◌≡◌ {A = Result Sector Fault} (Ok a) (Ok b) → a ≡ b
-fetched_same a b e = cc
-
--- sector i of n was fetched as s, and what is left gives the whole
-module _ (ss now : Disk) (same_disk : now ≡ ss) (n i : ℕ) (w : Result Unit Fault) where
-  module _ (below : i < n) (s : Sector) where
-    one_left : n - i ≡ suc (n - (i + 1))
-    one_left = omega arith
-
-    pub directory_more : (b : Bool) → ◌≡◌ {A = Result Sector Fault} (Ok s) (Ok (sector_at now (4 + i))) → b ≡ directory_framed i s → directory_on ss (n - i) i ≡ w → need b PointerError (4 + i) (directory_on ss (n - (i + 1)) (i + 1)) ≡ w
-    unfolding directory_on
-    directory_more b got e rest =
-        let here : s ≡ sector_at ss (4 + i) = fetched_same s (sector_at now (4 + i)) got ∙ ap (λ (d : Disk). sector_at d (4 + i)) same_disk in
-        ap (λ (x : Bool). need x PointerError (4 + i) (directory_on ss (n - (i + 1)) (i + 1))) (e ∙ ap (λ (x : Sector). directory_framed i x) here)
-        ∙ ap (λ (k : ℕ). directory_on ss k i) (sym one_left)
-        ∙ rest
-
-    pub map_more : (m : ℕ → Bool) (bytes : List ℕ) (b : Bool) → ◌≡◌ {A = Result Sector Fault} (Ok s) (Ok (sector_at now (1 + i))) → bytes ≡ map_sector_bytes m i → b ≡ same s.bytes bytes → map_on ss m (n - i) i ≡ w → need b MapWrong (1 + i) (map_on ss m (n - (i + 1)) (i + 1)) ≡ w
-    unfolding map_on
-    map_more m bytes b got made e rest =
-        let here : s ≡ sector_at ss (1 + i) = fetched_same s (sector_at now (1 + i)) got ∙ ap (λ (d : Disk). sector_at d (1 + i)) same_disk in
-        ap (λ (x : Bool). need x MapWrong (1 + i) (map_on ss m (n - (i + 1)) (i + 1)))
-        (e ∙ ap (λ (xs : List ℕ). same s.bytes xs) made ∙ ap (λ (x : Sector). same x.bytes (map_sector_bytes m i)) here)
-        ∙ ap (λ (k : ℕ). map_on ss m k i) (sym one_left)
-        ∙ rest
-
-  none_left : n ≤ i → n - i ≡ 0
-  none_left h = omega arith
-
-  pub directory_none : n ≤ i → directory_on ss (n - i) i ≡ w → Ok tt ≡ w
+module _ (ss : Disk) (n i : ℕ) where
+  pub directory_step : i < n → directory_on ss (n - i) i ≡ need (directory_framed i (sector_at ss (4 + i))) PointerError (4 + i) (directory_on ss (n - (i + 1)) (i + 1))
   unfolding directory_on
-  directory_none h rest = ap (λ (k : ℕ). directory_on ss k i) (sym (none_left h)) ∙ rest
+  directory_step h = let more : n - i ≡ suc (n - (i + 1)) = omega arith in ap (λ (k : ℕ). directory_on ss k i) more
 
-  pub map_none : n ≤ i → (m : ℕ → Bool) → map_on ss m (n - i) i ≡ w → Ok tt ≡ w
+  pub directory_end : n ≤ i → directory_on ss (n - i) i ≡ Ok tt
+  unfolding directory_on
+  directory_end h = let none : n - i ≡ 0 = omega arith in ap (λ (k : ℕ). directory_on ss k i) none
+
+  -- sector s holds what was made for it, or does not
+  pub map_more : (m : ℕ → Bool) (s : Sector) (bytes : List ℕ) (b : Bool) → i < n → s ≡ sector_at ss (1 + i) → bytes ≡ map_sector_bytes m i → b ≡ same s.bytes bytes → need b MapWrong (1 + i) (map_on ss m (n - (i + 1)) (i + 1)) ≡ map_on ss m (n - i) i
   unfolding map_on
-  map_none h m rest = ap (λ (k : ℕ). map_on ss m k i) (sym (none_left h)) ∙ rest
+  map_more m s bytes b below here made e =
+      let more : suc (n - (i + 1)) ≡ n - i = omega arith in
+      ap (λ (x : Bool). need x MapWrong (1 + i) (map_on ss m (n - (i + 1)) (i + 1)))
+      (e ∙ ap (λ (xs : List ℕ). same s.bytes xs) made ∙ ap (λ (x : Sector). same x.bytes (map_sector_bytes m i)) here)
+      ∙ ap (λ (k : ℕ). map_on ss m k i) more
+
+  pub map_end : (m : ℕ → Bool) → n ≤ i → map_on ss m (n - i) i ≡ Ok tt
+  unfolding map_on
+  map_end m h = let none : n - i ≡ 0 = omega arith in ap (λ (k : ℕ). map_on ss m k i) none

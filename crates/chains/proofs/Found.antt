@@ -1,18 +1,19 @@
 -- From what the survey says to what reading a disk promises.
-use Rattle.std.proofs.Common.{◌≡◌, ℕ, Bool, true, false, cond, length, Ok, Err, Result, sym, refl, ap, ◌∙◌, subst, arith}
+use Rattle.std.proofs.Common.{◌≡◌, ℕ, ◌≤◌, Bool, true, false, cond, leb, ltb, length, get_or, Ok, Err, Result, sym, refl, ap, ◌∙◌, subst, arith}
+use Rattle.std.proofs.lemmas.Bool.{and_parts, leb-true, lt-ltb}
 use Rattle.std.specs.List.{AllByRecursion}
 use Rattle.device.specs.declared.fault.Code.TheVariants.{BadLabel, NotReady}
 use Rattle.device.specs.declared.fault.Fault.{Fault}
-use Rattle.device.specs.Device.{Medium, WellFormed, device_fault}
+use Rattle.device.specs.declared.sector.Sector.{Sector}
+use Rattle.device.specs.Device.{Medium, WellFormed, blank, device_fault, fetched}
 use Rattle.freespace.specs.Bits.{bit_of}
-use Rattle.chains.specs.declared.survey.Scan.{Scan}
+use Rattle.device.specs.declared.reading.ReadingDevice.{Ghosts}
+use Rattle.chains.specs.declared.scan.Scan.{Scan}
 use Rattle.chains.specs.declared.survey.Survey.{Survey}
 use Rattle.chains.specs.Layout.{Disk, Layout, sized}
 use Rattle.chains.specs.Reading.{Found, fault, read, reading}
-use Rattle.chains.specs.Survey.{Seen, SumsUp, Tells, structure_fault, survey}
+use Rattle.chains.specs.Survey.{Seen, SumsUp, Tells, next, structure_fault, survey}
 use Rattle.chains.specs.Scans.{DiskRead, Scans, Shows, seen_of}
-use Rattle.chains.specs.Readable.{Told}
-use Rattle.chains.proofs.PlaceParts.{scanned_ok, scanned_err}
 use Rattle.chains.proofs.SurveyTold.{survey_tells}
 
 fails_so : (x : Found Layout) (f : Fault) → Tells SumsUp x (Err f) → Tells Shows x (Err f)
@@ -23,19 +24,22 @@ shows_so : (x : Found Layout) (s : Seen) (v : Survey) → v.files ≡ s.files �
 shows_so (fault c n) s v files used t = t
 shows_so (read d) s v files used t = record { files = files ∙ t.files; used = λ n. ap (λ (f : ℕ → Bool). f n) used ∙ t.met n }
 
-module _ (ss : Disk) (whole : AllByRecursion WellFormed ss) (r : Result Unit Fault) (t : Scan) (scans : Scans (survey ss) r t) where
-  pub found_fault : (f d : Fault) (x : Result Survey Fault) → r ≡ Err f → x ≡ Err d → d ≡ f → Told ss x
+-- an answer that tells what is read, under a name that stays shut: a goal that compares two disks does not read them
+unfoldable pub Told : Disk → Result Survey Fault → Type 0
+Told ss r = Tells Shows (reading ss) r
+
+module _ {D : Type 0} {G : Ghosts D} (ss : Disk) (whole : AllByRecursion WellFormed ss) (r : Result Unit Fault) (t : Scan D G) (scans : Scans (survey ss) r t) where
+  pub found_fault : (f : Fault) (x : Result Survey Fault) → r ≡ Err f → x ≡ Err f → Told ss x
   unfolding Told
-  found_fault f d x fails passed e =
-      let told : survey ss ≡ Err f = scanned_err (survey ss) t f (subst (λ (y : Result Unit Fault). Scans (survey ss) y t) fails scans) in
-      let same_fault : Err f ≡ x = sym (passed ∙ ap (λ (z : Fault). Err z) e) in
-      subst (λ (y : Result Survey Fault). Tells Shows (reading ss) y) same_fault
+  found_fault f x fails passed =
+      let told : survey ss ≡ Err f = scans ∙ ap (λ (y : Result Unit Fault). next y (λ _. Ok (seen_of t))) fails in
+      subst (λ (y : Result Survey Fault). Tells Shows (reading ss) y) (sym passed)
       (fails_so (reading ss) f (subst (λ (y : Result Seen Fault). Tells SumsUp (reading ss) y) told (survey_tells ss whole)))
 
   pub found_files : (v : Survey) → r ≡ Ok tt → v.files ≡ (seen_of t).files → bit_of v.used.bits ≡ (seen_of t).met → Told ss (Ok v)
   unfolding Told
   found_files v fine files used =
-      let told : survey ss ≡ Ok (seen_of t) = scanned_ok (survey ss) t (subst (λ (y : Result Unit Fault). Scans (survey ss) y t) fine scans) in
+      let told : survey ss ≡ Ok (seen_of t) = scans ∙ ap (λ (y : Result Unit Fault). next y (λ _. Ok (seen_of t))) fine in
       shows_so (reading ss) (seen_of t) v files used (subst (λ (y : Result Seen Fault). Tells SumsUp (reading ss) y) told (survey_tells ss whole))
 
 -- ---- the size and the door come first
@@ -43,13 +47,13 @@ module _ (ss : Disk) (whole : AllByRecursion WellFormed ss) (r : Result Unit Fau
 true_is_not_false : {X : Type 0} → true ≡ false → X
 true_is_not_false e = let z : ◌≡◌ {A = ℕ} 0 1 = ap (λ (b : Bool). cond b 0 1) e in absurd (omega arith)
 
-err_only_open : (b : Bool) (f : Fault) → ◌≡◌ {A = Result Unit Fault} (Err f) (cond b (Err (device_fault NotReady)) (Ok tt)) → (b ≡ true) × (f ≡ device_fault NotReady)
-err_only_open true f e = (refl, cc)
-err_only_open false f e = let z : ◌≡◌ {A = ℕ} 0 1 = cc in absurd (omega arith)
+err_only_open : {A : Type 0} (b : Bool) (x : A) (f : Fault) → ◌≡◌ {A = Result A Fault} (Err f) (cond b (Err (device_fault NotReady)) (Ok x)) → (b ≡ true) × (f ≡ device_fault NotReady)
+err_only_open true x f e = (refl, cc)
+err_only_open false x f e = let z : ◌≡◌ {A = ℕ} 0 1 = cc in absurd (omega arith)
 
-ok_only_closed : (b : Bool) → ◌≡◌ {A = Result Unit Fault} (Ok tt) (cond b (Err (device_fault NotReady)) (Ok tt)) → b ≡ false
-ok_only_closed true e = let z : ◌≡◌ {A = ℕ} 0 1 = cc in absurd (omega arith)
-ok_only_closed false e = refl
+ok_only_closed : {A : Type 0} (b : Bool) (x y : A) → ◌≡◌ {A = Result A Fault} (Ok x) (cond b (Err (device_fault NotReady)) (Ok y)) → b ≡ false
+ok_only_closed true x y e = let z : ◌≡◌ {A = ℕ} 0 1 = cc in absurd (omega arith)
+ok_only_closed false x y e = refl
 
 module _ (m : Medium) (size : ℕ) (counts : size ≡ length m.sectors) where
   size_is : {b : Bool} → b ≡ sized size → sized (length m.sectors) ≡ b
@@ -63,21 +67,32 @@ module _ (m : Medium) (size : ℕ) (counts : size ≡ length m.sectors) where
         found = λ s _. true_is_not_false (sym s ∙ size_is unsized);
       }
 
-  module _ (fits : true ≡ sized size) (r : Result Unit Fault) (value : r ≡ cond m.door (Err (device_fault NotReady)) (Ok tt)) where
-    pub refuses_door : (f d : Fault) (x : Result Survey Fault) → r ≡ Err f → x ≡ Err d → d ≡ f → DiskRead m x
-    refuses_door f d x fails passed e =
-        let open_with = err_only_open m.door f (sym fails ∙ value) in
+  -- sector 0 was asked for
+  module _ (fits : true ≡ sized size) (r : Result Sector Fault) (value : r ≡ fetched m 0) where
+    least : 64 ≤ length m.sectors
+    least = leb-true 64 (length m.sectors) (and_parts (leb 64 (length m.sectors)) (leb (length m.sectors) 2464) (size_is fits)).0
+
+    by_door : r ≡ cond m.door (Err (device_fault NotReady)) (Ok (get_or m.sectors 0 blank))
+    by_door = let some : ltb 0 (length m.sectors) ≡ true = let w = least in lt-ltb 0 (length m.sectors) (omega arith) in value ∙ simp some
+
+    pub refuses_door : (f : Fault) (x : Result Survey Fault) → r ≡ Err f → x ≡ Err f → DiskRead m x
+    refuses_door f x fails passed =
+        let open_with = err_only_open m.door _ f (sym fails ∙ by_door) in
         record {
           unfit = λ s. true_is_not_false (sym (size_is fits) ∙ s);
-          open_door = λ _ _. passed ∙ ap (λ (z : Fault). Err z) (e ∙ open_with.1);
+          open_door = λ _ _. passed ∙ ap (λ (z : Fault). Err z) open_with.1;
           found = λ _ closed. true_is_not_false (sym open_with.0 ∙ closed);
         }
 
-    pub reads_on : r ≡ Ok tt → (after : Medium) → after ≡ m → (x : Result Survey Fault) → Told after.sectors x → DiskRead m x
-    unfolding Told
-    reads_on fine after same_medium x told =
-        record {
-          unfit = λ s. true_is_not_false (sym (size_is fits) ∙ s);
-          open_door = λ _ opened. true_is_not_false (sym opened ∙ ok_only_closed m.door (sym fine ∙ value));
-          found = λ _ _. subst (λ (y : Medium). Tells Shows (reading y.sectors) x) same_medium told;
-        }
+    module _ (s : Sector) (fine : r ≡ Ok s) where
+      is_closed : m.door ≡ false
+      is_closed = ok_only_closed m.door s _ (sym fine ∙ by_door)
+
+      pub reads_on : (ss : Disk) → ss ≡ m.sectors → (x : Result Survey Fault) → Told ss x → DiskRead m x
+      unfolding Told
+      reads_on ss same_disk x told =
+          record {
+            unfit = λ t. true_is_not_false (sym (size_is fits) ∙ t);
+            open_door = λ _ opened. true_is_not_false (sym opened ∙ is_closed);
+            found = λ _ _. subst (λ (d : Disk). Tells Shows (reading d) x) same_disk told;
+          }

@@ -12,6 +12,7 @@ pub mod FilesTold
 pub mod MapTold
 pub mod SurveyTold
 pub mod Listings
+pub mod Keeping
 pub mod WalkSteps
 pub mod CheckParts
 pub mod FileParts

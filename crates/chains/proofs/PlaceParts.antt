@@ -1,39 +1,28 @@
 -- One more place of the directory, or one more sector of three places, and what is left of them.
-use Rattle.std.proofs.Common.{◌≡◌, List, ℕ, zero, suc, ◌+◌, ◌-◌, ◌*◌, ◌/◌, ◌%◌, ◌<◌, take, drop, Ok, Err, Result, sym, refl, ap, ◌∙◌, subst, zero-add, arith}
+use Rattle.std.proofs.Common.{◌≡◌, ℕ, zero, suc, ◌+◌, ◌-◌, ◌*◌, ◌/◌, ◌%◌, ◌<◌, ◌≤◌, List, [], length, take, drop, get_or, Ok, Err, Result, sym, refl, ap, ◌∙◌, zero-add, arith}
+use Rattle.std.proofs.lemmas.List.{drop-drop}
+use Rattle.std.specs.Simd.{first_chunks}
 use Rattle.device.specs.declared.fault.Fault.{Fault}
 use Rattle.device.specs.declared.sector.Sector.{Sector}
-use Rattle.chains.specs.declared.survey.Scan.{Scan}
 use Rattle.chains.specs.Layout.{Disk}
 use Rattle.chains.specs.Reading.{sector_at, place}
 use Rattle.chains.specs.Survey.{Seen, next, place_on, places_on}
-use Rattle.chains.specs.Scans.{Scans, seen_of}
 
--- ---- what the code's answer says of the survey's
+-- ---- the bytes of a place
 
-pub scanned_ok : (x : Result Seen Fault) (t : Scan) → Scans x (Ok tt) t → x ≡ Ok (seen_of t)
-scanned_ok (Err f) t e = let z : ◌≡◌ {A = ℕ} 0 1 = cc in absurd (omega arith)
-scanned_ok (Ok s) t e = ap (λ (y : Seen). Ok y) (sym e.1)
+chunk_at : (k : ℕ) (xs : List ℕ) (j : ℕ) → j < k → get_or (first_chunks 40 k xs) j [] ≡ take 40 (drop (40 * j) xs)
+chunk_at zero xs j h = absurd (omega arith)
+chunk_at (suc k) xs zero h = refl
+chunk_at (suc k) xs (suc j) h =
+    let on : 40 + 40 * j ≡ 40 * suc j = omega arith in
+    chunk_at k (drop 40 xs) j (omega arith) ∙ ap (λ (ys : List ℕ). take 40 ys) (drop-drop (40 * j) 40 xs ∙ ap (λ (n : ℕ). drop n xs) on)
 
-pub scanned_err : (x : Result Seen Fault) (t : Scan) (f : Fault) → Scans x (Err f) t → x ≡ Err f
-scanned_err (Err g) t f e = let same_fault : f ≡ g = cc in ap (λ (z : Fault). Err z) (sym same_fault)
-scanned_err (Ok s) t f e = let z : ◌≡◌ {A = ℕ} 0 1 = cc e.0 in absurd (omega arith)
-
--- a part that failed, whose fault is handed on as x
-pub passed_on : (w y : Result Seen Fault) (k : Seen → Result Seen Fault) (r x : Result Unit Fault) (t : Scan) (f d : Fault) → next y k ≡ w → Scans y r t → r ≡ Err f → x ≡ Err d → d ≡ f → Scans w x t
-passed_on w y k r x t f d rest scans fails passed e =
-    let fault : y ≡ Err f = scanned_err y t f (subst (λ (z : Result Unit Fault). Scans y z t) fails scans) in
-    let whole : Err f ≡ w = ap (λ (z : Result Seen Fault). next z k) (sym fault) ∙ rest in
-    subst (λ (z : Result Seen Fault). Scans z x t) whole (passed ∙ ap (λ (z : Fault). Err z) e)
-
--- a part that was done, and the rest goes on from there
-pub gone_on : (w y : Result Seen Fault) (k : Seen → Result Seen Fault) (r : Result Unit Fault) (t : Scan) → next y k ≡ w → Scans y r t → r ≡ Ok tt → k (seen_of t) ≡ w
-gone_on w y k r t rest scans fine =
-    let done : y ≡ Ok (seen_of t) = scanned_ok y t (subst (λ (z : Result Unit Fault). Scans y z t) fine scans) in
-    ap (λ (z : Result Seen Fault). next z k) (sym done) ∙ rest
-
--- the end: what is left is nothing
-pub all_done : (w : Result Seen Fault) (t : Scan) → Ok (seen_of t) ≡ w → Scans w (Ok tt) t
-all_done w t e = subst (λ (x : Result Seen Fault). Scans x (Ok tt) t) e (refl, refl)
+-- the places of the sector e, which was fetched as d
+pub same_places : (d e : Sector) (places : List (List ℕ)) → ◌≡◌ {A = Result Sector Fault} (Ok d) (Ok e) → length d.bytes ≡ 128 → places ≡ first_chunks 40 (length d.bytes / 40) d.bytes → places ≡ first_chunks 40 3 e.bytes
+same_places d e places got whole chunks =
+    let there : d ≡ e = cc in
+    let three : length d.bytes / 40 ≡ 3 = omega arith in
+    chunks ∙ (λ k. first_chunks 40 (three k) (there k).bytes)
 
 -- ---- splitting a row of places
 
@@ -57,29 +46,31 @@ module _ (ss : Disk) where
       ∙ next_next x (λ t. places_on ss a (p + 1) t) (λ t. places_on ss b (p + 1 + a) t)
       ∙ ap (λ (q : ℕ). next (next x (λ t. places_on ss a (p + 1) t)) (λ t. places_on ss b q t)) on
 
-  -- directory sector i of n, three places each
-  pub sector_left : (now : Disk) → now ≡ ss → (n i : ℕ) (s : Seen) → i < n → next (places_on now 3 (3 * i) s) (λ t. places_on ss (3 * n - 3 * (i + 1)) (3 * (i + 1)) t) ≡ places_on ss (3 * n - 3 * i) (3 * i) s
-  sector_left now same_disk n i s below =
-      let split : 3 + (3 * n - 3 * (i + 1)) ≡ 3 * n - 3 * i = omega arith in
-      let on : 3 * (i + 1) ≡ 3 * i + 3 = omega arith in
-      (λ k. next (places_on (same_disk k) 3 (3 * i) s) (λ t. places_on ss (3 * n - 3 * (i + 1)) (on k) t))
-      ∙ sym (places_split 3 (3 * n - 3 * (i + 1)) (3 * i) s)
-      ∙ ap (λ (k : ℕ). places_on ss k (3 * i) s) split
+  -- the places of directory sector i, and those after it
+  pub sector_more : (i : ℕ) (s : Seen) → i < 32 → places_on ss (96 - 3 * i) (3 * i) s ≡ next (places_on ss 3 (3 * i) s) (λ t. places_on ss (96 - 3 * (i + 1)) (3 * (i + 1)) t)
+  sector_more i s below =
+      let split : 96 - 3 * i ≡ 3 + (96 - 3 * (i + 1)) = omega arith in
+      let on : 3 * i + 3 ≡ 3 * (i + 1) = omega arith in
+      ap (λ (k : ℕ). places_on ss k (3 * i) s) split
+      ∙ places_split 3 (96 - 3 * (i + 1)) (3 * i) s
+      ∙ (λ k. next (places_on ss 3 (3 * i) s) (λ t. places_on ss (96 - 3 * (i + 1)) (on k) t))
 
-  -- place j of directory sector i, as its bytes
-  pub place_more : (now : Disk) → now ≡ ss → (i j : ℕ) (d : Sector) (bs : List ℕ) (s : Seen) → j < 3 → d ≡ sector_at ss (4 + i) → bs ≡ take 40 (drop (40 * j) d.bytes) →
-      next (place_on now s (4 + i) bs) (λ t. places_on ss (3 - (j + 1)) (3 * i + (j + 1)) t) ≡ places_on ss (3 - j) (3 * i + j) s
+  pub sector_over : (i : ℕ) (s : Seen) → 32 ≤ i → places_on ss (96 - 3 * i) (3 * i) s ≡ Ok s
   unfolding places_on
-  place_more now same_disk i j d bs s below there cut =
-      let row : i ≡ (3 * i + j) / 3 = omega arith in
-      let column : j ≡ (3 * i + j) % 3 = omega arith in
-      let on : 3 * i + (j + 1) ≡ 3 * i + j + 1 = omega arith in
-      let left : suc (3 - (j + 1)) ≡ 3 - j = omega arith in
-      (λ k. next (place_on (same_disk k) s (4 + i) (cut k)) (λ t. places_on ss (3 - (j + 1)) (on k) t))
-      ∙ ap (λ x. next (place_on ss s (4 + i) (take 40 (drop (40 * j) x.bytes))) (λ t. places_on ss (3 - (j + 1)) (3 * i + j + 1) t)) there
-      ∙ (λ k. next (place_on ss s (4 + row k) (take 40 (drop (40 * column k) (sector_at ss (4 + row k)).bytes))) (λ t. places_on ss (3 - (j + 1)) (3 * i + j + 1) t))
-      ∙ ap (λ (k : ℕ). places_on ss k (3 * i + j) s) left
+  sector_over i s over = let none : 96 - 3 * i ≡ 0 = omega arith in ap (λ (k : ℕ). places_on ss k (3 * i) s) none
 
-  pub places_none : (n p : ℕ) (s : Seen) (w : Result Seen Fault) → n ≡ 0 → places_on ss n p s ≡ w → Ok s ≡ w
+  -- place j of directory sector i, and those after it in the sector
+  pub place_more : (i j : ℕ) (s : Seen) → j < 3 → places_on ss (3 - j) (3 * i + j) s ≡ next (place_on ss s (4 + i) (get_or (first_chunks 40 3 (sector_at ss (4 + i)).bytes) j [])) (λ t. places_on ss (3 - (j + 1)) (3 * i + (j + 1)) t)
   unfolding places_on
-  places_none n p s w e rest = ap (λ (k : ℕ). places_on ss k p s) (sym e) ∙ rest
+  place_more i j s below =
+      let row : (3 * i + j) / 3 ≡ i = omega arith in
+      let column : (3 * i + j) % 3 ≡ j = omega arith in
+      let on : 3 * i + j + 1 ≡ 3 * i + (j + 1) = omega arith in
+      let left : 3 - j ≡ suc (3 - (j + 1)) = omega arith in
+      ap (λ (k : ℕ). places_on ss k (3 * i + j) s) left
+      ∙ (λ k. next (place_on ss s (4 + row k) (take 40 (drop (40 * column k) (sector_at ss (4 + row k)).bytes))) (λ t. places_on ss (3 - (j + 1)) (on k) t))
+      ∙ ap (λ (bs : List ℕ). next (place_on ss s (4 + i) bs) (λ t. places_on ss (3 - (j + 1)) (3 * i + (j + 1)) t)) (sym (chunk_at 3 (sector_at ss (4 + i)).bytes j below))
+
+  pub place_over : (i j : ℕ) (s : Seen) → 3 ≤ j → places_on ss (3 - j) (3 * i + j) s ≡ Ok s
+  unfolding places_on
+  place_over i j s over = let none : 3 - j ≡ 0 = omega arith in ap (λ (k : ℕ). places_on ss k (3 * i + j) s) none

@@ -1,66 +1,35 @@
--- The survey of a disk in its four parts, and what is answered where one of them fails.
-use Rattle.std.proofs.Common.{◌≡◌, ℕ, Bool, true, false, length, Ok, Err, Result, sym, refl, ap, ◌∙◌, subst}
+-- The survey of a disk in its four parts.
+use Rattle.std.proofs.Common.{◌≡◌, ℕ, Bool, true, false, length, Ok, Err, Result, sym, refl, ap, ◌∙◌}
 use Rattle.device.specs.declared.fault.Code.{Code}
 use Rattle.device.specs.declared.fault.Code.TheVariants.{BadLabel}
 use Rattle.device.specs.declared.fault.Fault.{Fault}
-use Rattle.freespace.specs.Bits.{bit_of}
-use Rattle.chains.specs.declared.survey.Scan.{Scan}
 use Rattle.chains.specs.Layout.{Disk}
 use Rattle.chains.specs.Reading.{sector_at}
 use Rattle.chains.specs.Survey.{Seen, need, next, exact_label, to_be_marked, nothing_seen, directory_on, places_on, map_on, survey}
-use Rattle.chains.specs.Scans.{Scans, seen_of}
-use Rattle.chains.proofs.PlaceParts.{scanned_ok, scanned_err}
 
 need_then : (b : Bool) (c : Code) (n : ℕ) (k : Result Seen Fault) → need b c n k ≡ next (need {A = Unit {0}} b c n (Ok tt)) (λ _. k)
 need_then true c n k = refl
 need_then false c n k = refl
 
--- the last part's answer is the whole's
-by_last : (m : Result Unit Fault) (t : Scan) → Scans (next m (λ _. Ok (seen_of t))) m t
-by_last (Err f) t = refl
-by_last (Ok u) t = (refl, refl)
+pub survey_is : (ss : Disk) →
+    survey ss ≡ next (need {A = Unit {0}} (exact_label (sector_at ss 0).bytes (length ss)) BadLabel 0 (Ok tt)) (λ _.
+    next (directory_on ss 32 0) (λ _.
+    next (places_on ss 96 0 nothing_seen) (λ s.
+    next (map_on ss (to_be_marked (length ss) s.met) 3 0) (λ _. Ok s))))
+unfolding survey
+survey_is ss = need_then (exact_label (sector_at ss 0).bytes (length ss)) BadLabel 0 _
 
-handed_on : (w : Result Seen Fault) (f d : Fault) (x : Result Unit Fault) (t : Scan) → w ≡ Err f → x ≡ Err d → d ≡ f → Scans w x t
-handed_on w f d x t fault passed e = subst (λ (y : Result Seen Fault). Scans y x t) (sym fault) (passed ∙ ap (λ (z : Fault). Err z) e)
+-- the map's answer is the whole's, where the parts before it were right
+pub survey_ends : (ss : Disk) (t : Seen) (m : Result Unit Fault) →
+    need {A = Unit {0}} (exact_label (sector_at ss 0).bytes (length ss)) BadLabel 0 (Ok tt) ≡ Ok tt → directory_on ss 32 0 ≡ Ok tt → places_on ss 96 0 nothing_seen ≡ Ok t →
+    m ≡ map_on ss (to_be_marked (length ss) t.met) 3 0 → survey ss ≡ next m (λ _. Ok t)
+survey_ends ss t m label directory places map =
+    survey_is ss
+    ∙ (λ i. next (label i) (λ _. next (directory i) (λ _. next (places i) (λ s. next (map_on ss (to_be_marked (length ss) s.met) 3 0) (λ _. Ok s)))))
+    ∙ ap (λ (x : Result Unit Fault). next x (λ _. Ok t)) (sym map)
 
-module _ (ss : Disk) where
-  abbrev parts : Result Unit Fault → Result Unit Fault → Result Seen Fault → Result Seen Fault
-  parts l d p = next l (λ _. next d (λ _. next p (λ s. next (map_on ss (to_be_marked (length ss) s.met) 3 0) (λ _. Ok s))))
-
-  module _ (size : ℕ) (sized : size ≡ length ss) (l : Result Unit Fault) (label : l ≡ need (exact_label (sector_at ss 0).bytes size) BadLabel 0 (Ok tt)) where
-    in_parts : survey ss ≡ parts l (directory_on ss 32 0) (places_on ss 96 0 nothing_seen)
-    unfolding survey
-    in_parts =
-        need_then (exact_label (sector_at ss 0).bytes (length ss)) BadLabel 0 _
-        ∙ ap (λ (x : Result Unit Fault). parts x (directory_on ss 32 0) (places_on ss 96 0 nothing_seen))
-        (ap (λ (k : ℕ). need {A = Unit {0}} (exact_label (sector_at ss 0).bytes k) BadLabel 0 (Ok tt)) (sym sized) ∙ sym label)
-
-    pub fails_at_label : (f d : Fault) (x : Result Unit Fault) (t : Scan) → l ≡ Err f → x ≡ Err d → d ≡ f → Scans (survey ss) x t
-    fails_at_label f d x t fails = handed_on (survey ss) f d x t (in_parts ∙ ap (λ (y : Result Unit Fault). parts y (directory_on ss 32 0) (places_on ss 96 0 nothing_seen)) fails)
-
-    module _ (labelled : l ≡ Ok tt) (after_label : Disk) (same_label : after_label ≡ ss) (r : Result Unit Fault) (directory : r ≡ directory_on after_label 32 0) where
-      from_directory : survey ss ≡ parts (Ok tt) r (places_on ss 96 0 nothing_seen)
-      from_directory =
-          in_parts ∙ (λ i. parts (labelled i) (directory_on (sym same_label i) 32 0) (places_on ss 96 0 nothing_seen))
-          ∙ ap (λ (y : Result Unit Fault). parts (Ok tt) y (places_on ss 96 0 nothing_seen)) (sym directory)
-
-      pub fails_at_directory : (f d : Fault) (x : Result Unit Fault) (t : Scan) → r ≡ Err f → x ≡ Err d → d ≡ f → Scans (survey ss) x t
-      fails_at_directory f d x t fails = handed_on (survey ss) f d x t (from_directory ∙ ap (λ (y : Result Unit Fault). parts (Ok tt) y (places_on ss 96 0 nothing_seen)) fails)
-
-      module _ (framed : r ≡ Ok tt) (after_directory : Disk) (same_directory : after_directory ≡ ss) (s : Seen) (fresh : s ≡ nothing_seen) (q : Result Unit Fault) (t : Scan) (places : Scans (places_on after_directory 96 0 s) q t) where
-        from_places : survey ss ≡ parts (Ok tt) (Ok tt) (places_on after_directory 96 0 s)
-        from_places = from_directory ∙ (λ i. parts (Ok tt) (framed i) (places_on (sym same_directory i) 96 0 (sym fresh i)))
-
-        pub fails_at_places : (f d : Fault) (x : Result Unit Fault) → q ≡ Err f → x ≡ Err d → d ≡ f → Scans (survey ss) x t
-        fails_at_places f d x fails =
-            let fault : places_on after_directory 96 0 s ≡ Err f = scanned_err _ t f (subst (λ (y : Result Unit Fault). Scans (places_on after_directory 96 0 s) y t) fails places) in
-            handed_on (survey ss) f d x t (from_places ∙ ap (λ (y : Result Seen Fault). parts (Ok tt) (Ok tt) y) fault)
-
-        pub ends_with_map : q ≡ Ok tt → (after_places : Disk) → after_places ≡ ss → (m : Result Unit Fault) → m ≡ map_on after_places (to_be_marked size (bit_of t.met.bits)) 3 0 → Scans (survey ss) m t
-        ends_with_map fine after_places same_places m map =
-            let done : places_on after_directory 96 0 s ≡ Ok (seen_of t) = scanned_ok _ t (subst (λ (y : Result Unit Fault). Scans (places_on after_directory 96 0 s) y t) fine places) in
-            let last : survey ss ≡ next m (λ _. Ok (seen_of t)) =
-            from_places ∙ ap (λ (y : Result Seen Fault). parts (Ok tt) (Ok tt) y) done
-            ∙ (λ i. next (map_on (sym same_places i) (to_be_marked (sym sized i) (bit_of t.met.bits)) 3 0) (λ _. Ok (seen_of t)))
-            ∙ ap (λ (y : Result Unit Fault). next y (λ _. Ok (seen_of t))) (sym map) in
-            subst (λ (y : Result Seen Fault). Scans y m t) (sym last) (by_last m t)
+-- and the fault in the places is the whole's
+pub survey_stops : (ss : Disk) (f : Fault) →
+    need {A = Unit {0}} (exact_label (sector_at ss 0).bytes (length ss)) BadLabel 0 (Ok tt) ≡ Ok tt → directory_on ss 32 0 ≡ Ok tt → places_on ss 96 0 nothing_seen ≡ Err f → survey ss ≡ Err f
+survey_stops ss f label directory places =
+    survey_is ss ∙ (λ i. next (label i) (λ _. next (directory i) (λ _. next (places i) (λ s. next (map_on ss (to_be_marked (length ss) s.met) 3 0) (λ _. Ok s)))))

@@ -4,13 +4,14 @@ ghost use Rattle.device.specs.declared.fault.Code.TheVariants.{BadLabel as bad_l
 ghost use Rattle.freespace.specs.Bits.{bit_of};
 ghost use Rattle.chains.specs.Reading.{sector_at};
 ghost use Rattle.chains.specs.Survey.{directory_on, exact_label, map_on, need, to_be_marked};
-ghost use Rattle.chains.specs.Readable.{Readable};
+ghost use Rattle.chains.specs.Scans.{Keeps, disk_of};
 
 use crate::directory::is_directory_frame;
 use crate::label::is_exact_label;
 use crate::layout::{DIRECTORY_SECTORS, DIRECTORY_START, MAP_SECTORS, MAP_START, RESERVED};
 use crate::map::{Marks, map_bytes};
-use crate::walk::{fetch, structure_fault};
+use crate::scan::OpenDisk;
+use crate::walk::structure_fault;
 use device::{Code, Fault, ReadingDevice};
 use freespace::{BitMap, SectorAllocator};
 
@@ -29,49 +30,48 @@ impl Marks for MetMarks<'_> {
     }
 }
 
-pub(crate) fn check_label<D: ReadingDevice>(device: &mut D, size: u16) -> Result<(), Fault>
-    requires ready { Readable (D.ReadingDevice.medium device.old) }
-    requires sized { size ≡ length (D.ReadingDevice.medium device.old).sectors }
-    ensures value { result ≡ need (exact_label (sector_at (D.ReadingDevice.medium device.old).sectors 0).bytes size) bad_label 0 (Ok tt) }
-    ensures same { D.ReadingDevice.medium device.new ≡ D.ReadingDevice.medium device.old }
-{
-    let sector = fetch(device, 0)?;
-    if is_exact_label(&sector.bytes, size) {
+impl<D: ReadingDevice> OpenDisk<'_, D> {
+    pub(crate) fn check_label(&mut self) -> Result<(), Fault>
+        ensures value { result ≡ need (exact_label (sector_at (disk_of self.old) 0).bytes (length (disk_of self.old))) bad_label 0 (Ok tt) }
+        ensures same { Keeps self.old self.new }
+    {
+        let sector = self.fetch(0)?;
+        if is_exact_label(&sector.bytes, self.size) {
+            Ok(())
+        } else {
+            Err(structure_fault(Code::BadLabel, 0))
+        }
+    }
+
+    #[tactic(auto, using(crate::proofs::CheckParts::directory_step, crate::proofs::CheckParts::directory_end))]
+    pub(crate) fn check_directory(&mut self) -> Result<(), Fault>
+        ensures value { result ≡ directory_on (disk_of self.old) 32 0 }
+        ensures same { Keeps self.old self.new }
+    {
+        for i in 0..DIRECTORY_SECTORS {
+            let sector = self.fetch(DIRECTORY_START + i)?;
+            if !is_directory_frame(i, &sector) {
+                return Err(structure_fault(Code::PointerError, DIRECTORY_START + i));
+            }
+        }
         Ok(())
-    } else {
-        Err(structure_fault(Code::BadLabel, 0))
     }
-}
 
-pub(crate) fn check_directory<D: ReadingDevice>(device: &mut D) -> Result<(), Fault>
-    requires ready { Readable (D.ReadingDevice.medium device.old) }
-    ensures value { result ≡ directory_on (D.ReadingDevice.medium device.old).sectors 32 0 }
-    ensures same { D.ReadingDevice.medium device.new ≡ D.ReadingDevice.medium device.old }
-{
-    for i in 0..DIRECTORY_SECTORS {
-        let sector = fetch(device, DIRECTORY_START + i)?;
-        if !is_directory_frame(i, &sector) {
-            return Err(structure_fault(Code::PointerError, DIRECTORY_START + i));
+    #[tactic(auto, using(crate::proofs::CheckParts::map_end))]
+    pub(crate) fn check_map(&mut self, met: &BitMap) -> Result<(), Fault>
+        ensures value { result ≡ map_on (disk_of self.old) (to_be_marked (length (disk_of self.old)) (bit_of met.now.bits)) 3 0 }
+        ensures same { Keeps self.old self.new }
+    {
+        let marks = MetMarks {
+            size: self.size,
+            met,
+        };
+        for j in 0..MAP_SECTORS {
+            let sector = self.fetch(MAP_START + j)?;
+            if sector.bytes != map_bytes(&marks, j) {
+                return Err(structure_fault(Code::MapWrong, MAP_START + j));
+            }
         }
+        Ok(())
     }
-    Ok(())
-}
-
-pub(crate) fn check_map<D: ReadingDevice>(
-    device: &mut D,
-    size: u16,
-    met: &BitMap,
-) -> Result<(), Fault>
-    requires ready { Readable (D.ReadingDevice.medium device.old) }
-    ensures value { result ≡ map_on (D.ReadingDevice.medium device.old).sectors (to_be_marked size (bit_of met.now.bits)) 3 0 }
-    ensures same { D.ReadingDevice.medium device.new ≡ D.ReadingDevice.medium device.old }
-{
-    let marks = MetMarks { size, met };
-    for j in 0..MAP_SECTORS {
-        let sector = fetch(device, MAP_START + j)?;
-        if sector.bytes != map_bytes(&marks, j) {
-            return Err(structure_fault(Code::MapWrong, MAP_START + j));
-        }
-    }
-    Ok(())
 }

@@ -17,6 +17,7 @@ mod map;
 mod name;
 mod place;
 mod saving;
+mod scan;
 mod survey;
 mod walk;
 

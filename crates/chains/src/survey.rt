@@ -1,22 +1,15 @@
 // Reading a whole disk: the first fault in a fixed order, or how many files there are and which sectors they use.
-ghost use Rattle.std.specs.Prelude.{◌≡◌, ℕ, ◌+◌, ◌*◌, ◌<◌, ◌≤◌, not, ◌&&◌, length, if◌then◌else◌, Ok, Err, nat_le, nat_lt};
+ghost use Rattle.std.specs.Prelude.{◌≡◌, ℕ, ◌+◌, ◌*◌, ◌<◌, ◌≤◌, not, ◌&&◌, if◌then◌else◌, nat_le, nat_lt};
 ghost use Rattle.arrayvec.specs.ArrayVec.{array_vec_len};
-ghost use Rattle.device.specs.declared.fault.Code.TheVariants.{NotReady as not_ready};
-ghost use Rattle.device.specs.Device.{WellFormed, device_fault};
 ghost use Rattle.freespace.specs.Bits.{bit_of};
 ghost use Rattle.chains.specs.Layout.{reserved};
-ghost use Rattle.chains.specs.Reading.{sector_at};
 ghost use Rattle.chains.specs.Survey.{nothing_seen, places_on, survey};
-ghost use Rattle.chains.specs.Scans.{DiskRead, Scans, seen_of};
-ghost use Rattle.chains.specs.Readable.{Readable, Told};
+ghost use Rattle.chains.specs.Scans.{DiskRead, Keeps, Scans, disk_of, seen_of};
 
-use crate::checks::{check_directory, check_label, check_map};
-use crate::files::read_place;
 use crate::layout::{DIRECTORY_SECTORS, DIRECTORY_START, RESERVED, is_disk_size};
-use crate::name::Name;
-use crate::walk::{fetch, structure_fault};
-use arrayvec::ArrayVec;
-use device::{Code, Fault, ReadingDevice, Sector};
+use crate::scan::{OpenDisk, Scan};
+use crate::walk::structure_fault;
+use device::{Code, Fault, ReadingDevice};
 use freespace::{BitMap, SectorAllocator, fill_unused};
 
 // What a disk without a fault holds.
@@ -43,135 +36,61 @@ impl Survey {
     }
 }
 
-// The sectors and names met so far.
-#[derive(Drop)]
-pub(crate) struct Scan {
-    pub(crate) met: BitMap,
-    pub(crate) names: ArrayVec<Name, 96>,
-}
-
-fn new_scan(size: u16) -> Scan
-    requires { size ≤ 2464 }
-    ensures seen { seen_of result ≡ nothing_seen }
-    ensures span { result.met.sectors ≡ size }
-{
-    let mut met = BitMap::new();
-    met.clear(size);
-    Scan {
-        met,
-        names: ArrayVec::new(),
+impl<D: ReadingDevice> Scan<'_, D> {
+    // Reads the three places of directory sector i.
+    #[tactic(auto, using(crate::proofs::PlaceParts::place_more, crate::proofs::PlaceParts::place_over))]
+    fn read_directory_sector(&mut self, i: u16) -> Result<(), Fault>
+        requires few { array_vec_len self.old.names + 3 ≤ 96 }
+        requires below { i < 32 }
+        ensures scans { Scans (places_on (disk_of self.old.disk) 3 (3 * i) (seen_of self.old)) result self.new }
+        ensures count { array_vec_len self.new.names ≤ array_vec_len self.old.names + 3 }
+        ensures same { Keeps self.old.disk self.new.disk }
+    {
+        let sector = self.disk.fetch(DIRECTORY_START + i)?;
+        let (places, _) = sector.bytes.as_chunks::<40>();
+        for place in places {
+            self.read_place(DIRECTORY_START + i, place)?;
+        }
+        Ok(())
     }
-}
 
-fn into_survey(scan: Scan) -> Survey
-    ensures files { result.files ≡ (seen_of scan).files }
-    ensures used { bit_of result.used.bits ≡ (seen_of scan).met }
-{
-    let Scan { met, names } = scan;
-    Survey {
-        files: names.len() as u16,
-        used: met,
+    // Reads all places of the directory.
+    #[tactic(auto, using(crate::proofs::PlaceParts::sector_more, crate::proofs::PlaceParts::sector_over))]
+    fn read_places(&mut self) -> Result<(), Fault>
+        requires { array_vec_len self.old.names ≡ 0 }
+        ensures scans { Scans (places_on (disk_of self.old.disk) 96 0 (seen_of self.old)) result self.new }
+        ensures same { Keeps self.old.disk self.new.disk }
+    {
+        for i in 0..DIRECTORY_SECTORS {
+            self.read_directory_sector(i)?;
+        }
+        Ok(())
     }
-}
 
-// Reads the three places of directory sector i.
-fn read_sector_places<D: ReadingDevice>(
-    device: &mut D,
-    size: u16,
-    scan: &mut Scan,
-    i: u16,
-    sector: &Sector,
-) -> Result<(), Fault>
-    requires ready { Readable (D.ReadingDevice.medium device.old) }
-    requires sized { size ≡ length (D.ReadingDevice.medium device.old).sectors }
-    requires spans { scan.old.met.sectors ≡ size }
-    requires few { array_vec_len scan.old.names + 3 ≤ 96 }
-    requires below { i < 32 }
-    requires whole { WellFormed sector.now }
-    requires there { sector.now ≡ sector_at (D.ReadingDevice.medium device.old).sectors (4 + i) }
-    ensures scans { Scans (places_on (D.ReadingDevice.medium device.old).sectors 3 (3 * i) (seen_of scan.old)) result scan.new }
-    ensures count { array_vec_len scan.new.names ≤ array_vec_len scan.old.names + 3 }
-    ensures span { scan.new.met.sectors ≡ scan.old.met.sectors }
-    ensures same { D.ReadingDevice.medium device.new ≡ D.ReadingDevice.medium device.old }
-{
-    let (places, _) = sector.bytes.as_chunks::<40>();
-    for place in places {
-        read_place(device, size, scan, DIRECTORY_START + i, place)?;
+    // Label, directory, places with their files, map.
+    #[tactic(auto, using(crate::proofs::SurveyParts::survey_is))]
+    fn survey(&mut self) -> Result<(), Fault>
+        requires { seen_of self.old ≡ nothing_seen }
+        ensures scans { Scans (survey (disk_of self.old.disk)) result self.new }
+        ensures same { Keeps self.old.disk self.new.disk }
+    {
+        self.disk.check_label()?;
+        self.disk.check_directory()?;
+        self.read_places()?;
+        self.disk.check_map(&self.met)
     }
-    Ok(())
-}
 
-fn read_directory_sector<D: ReadingDevice>(
-    device: &mut D,
-    size: u16,
-    scan: &mut Scan,
-    i: u16,
-) -> Result<(), Fault>
-    requires ready { Readable (D.ReadingDevice.medium device.old) }
-    requires sized { size ≡ length (D.ReadingDevice.medium device.old).sectors }
-    requires spans { scan.old.met.sectors ≡ size }
-    requires few { array_vec_len scan.old.names + 3 ≤ 96 }
-    requires below { i < 32 }
-    ensures scans { Scans (places_on (D.ReadingDevice.medium device.old).sectors 3 (3 * i) (seen_of scan.old)) result scan.new }
-    ensures count { array_vec_len scan.new.names ≤ array_vec_len scan.old.names + 3 }
-    ensures span { scan.new.met.sectors ≡ scan.old.met.sectors }
-    ensures same { D.ReadingDevice.medium device.new ≡ D.ReadingDevice.medium device.old }
-{
-    let sector = fetch(device, DIRECTORY_START + i)?;
-    read_sector_places(device, size, scan, i, &sector)
-}
-
-// Reads all places of the directory.
-fn read_places<D: ReadingDevice>(device: &mut D, size: u16, scan: &mut Scan) -> Result<(), Fault>
-    requires ready { Readable (D.ReadingDevice.medium device.old) }
-    requires sized { size ≡ length (D.ReadingDevice.medium device.old).sectors }
-    requires spans { scan.old.met.sectors ≡ size }
-    requires none { array_vec_len scan.old.names ≡ 0 }
-    ensures scans { Scans (places_on (D.ReadingDevice.medium device.old).sectors 96 0 (seen_of scan.old)) result scan.new }
-    ensures span { scan.new.met.sectors ≡ scan.old.met.sectors }
-    ensures same { D.ReadingDevice.medium device.new ≡ D.ReadingDevice.medium device.old }
-{
-    for i in 0..DIRECTORY_SECTORS {
-        read_directory_sector(device, size, scan, i)?;
+    fn into_survey(self) -> Survey
+        ensures files { result.files ≡ (seen_of self.entry).files }
+        ensures used { bit_of result.used.bits ≡ (seen_of self.entry).met }
+        ensures same { D.ReadingDevice.medium self.exit.0.0.now ≡ D.ReadingDevice.medium self.entry.disk.device.now }
+    {
+        let Scan { met, names, .. } = self;
+        Survey {
+            files: names.len() as u16,
+            used: met,
+        }
     }
-    Ok(())
-}
-
-// Label, directory, places with their files, map.
-fn survey_disk<D: ReadingDevice>(device: &mut D, size: u16, scan: &mut Scan) -> Result<(), Fault>
-    requires ready { Readable (D.ReadingDevice.medium device.old) }
-    requires sized { size ≡ length (D.ReadingDevice.medium device.old).sectors }
-    requires spans { scan.old.met.sectors ≡ size }
-    requires fresh { seen_of scan.old ≡ nothing_seen }
-    ensures scans { Scans (survey (D.ReadingDevice.medium device.old).sectors) result scan.new }
-    ensures same { D.ReadingDevice.medium device.new ≡ D.ReadingDevice.medium device.old }
-{
-    check_label(device, size)?;
-    check_directory(device)?;
-    read_places(device, size, scan)?;
-    check_map(device, size, &scan.met)
-}
-
-// Gives the device's own fault where its door is open.
-fn refuse_open_door<D: ReadingDevice>(device: &mut D) -> Result<(), Fault>
-    requires { 0 < length (D.ReadingDevice.medium device.old).sectors }
-    ensures value { result ≡ (if (D.ReadingDevice.medium device.old).door then Err (device_fault not_ready) else Ok tt) }
-    ensures same { D.ReadingDevice.medium device.new ≡ D.ReadingDevice.medium device.old }
-{
-    device.read(0)?;
-    Ok(())
-}
-
-// Reads a disk whose size is a disk's and whose door is closed.
-fn read_closed<D: ReadingDevice>(device: &mut D, size: u16) -> Result<Survey, Fault>
-    requires ready { Readable (D.ReadingDevice.medium device.old) }
-    requires sized { size ≡ length (D.ReadingDevice.medium device.old).sectors }
-    ensures found { Told (D.ReadingDevice.medium device.old).sectors result }
-    ensures same { D.ReadingDevice.medium device.new ≡ D.ReadingDevice.medium device.old }
-{
-    let mut scan = new_scan(size);
-    survey_disk(device, size, &mut scan)?;
-    Ok(into_survey(scan))
 }
 
 // Reads a whole disk. Refuses a size that no label can hold, then as the device does.
@@ -183,6 +102,9 @@ pub fn read_disk<D: ReadingDevice>(device: &mut D) -> Result<Survey, Fault>
     if !is_disk_size(size) {
         return Err(structure_fault(Code::BadLabel, 0));
     }
-    refuse_open_door(device)?;
-    read_closed(device, size)
+    // An open door is refused here.
+    device.read(0)?;
+    let mut scan = Scan::new(OpenDisk { device, size });
+    scan.survey()?;
+    Ok(scan.into_survey())
 }

@@ -1,15 +1,22 @@
 // Walking along the chain of a file's records.
-ghost use Rattle.std.specs.Prelude.{◌≡◌, ◌<◌, true, not, ◌&&◌, length, IfOk, Ok, nat_le, nat_lt};
-ghost use Rattle.device.specs.Device.{WellFormed};
+ghost use Rattle.std.specs.Prelude.{◌≡◌, true, not, ◌&&◌};
 ghost use Rattle.freespace.specs.Bits.{bit_of};
-ghost use Rattle.chains.specs.Reading.{sector_at};
+ghost use Rattle.chains.specs.Reading.{usable};
 ghost use Rattle.chains.specs.Survey.{also, structure_fault, walk_on};
-ghost use Rattle.chains.specs.Readable.{Readable};
-ghost use Rattle.chains.specs.Walks.{Steps, Walks};
+ghost use Rattle.chains.specs.Scans.{Keeps, disk_of};
+ghost use Rattle.chains.specs.Walks.{Leads, Steps, Walks};
 
 use crate::layout::{NULL_LINK, RESERVED};
-use device::{Code, Fault, Layer, ReadingDevice, Sector};
-use freespace::{BitMap, SectorAllocator};
+use crate::scan::Scan;
+use device::{Code, Fault, Layer, ReadingDevice};
+use freespace::SectorAllocator;
+
+// A sector, and the sector that its forward link names.
+#[derive(Clone, Copy)]
+pub(crate) struct Link {
+    pub(crate) from: u16,
+    pub(crate) to: u16,
+}
 
 // A fault in what stands on the disk.
 pub(crate) fn structure_fault(code: Code, sector: u16) -> Fault
@@ -22,74 +29,53 @@ pub(crate) fn structure_fault(code: Code, sector: u16) -> Fault
     }
 }
 
-// Reads a sector where the device cannot refuse.
-pub(crate) fn fetch<D: ReadingDevice>(device: &mut D, n: u16) -> Result<Sector, Fault>
-    requires within { n < length (D.ReadingDevice.medium device.old).sectors }
-    requires ready { Readable (D.ReadingDevice.medium device.old) }
-    ensures value { result ≡ Ok (sector_at (D.ReadingDevice.medium device.old).sectors n) }
-    ensures whole { IfOk result WellFormed }
-    ensures same { D.ReadingDevice.medium device.new ≡ D.ReadingDevice.medium device.old }
-{
-    device.read(n)
-}
+impl<D: ReadingDevice> Scan<'_, D> {
+    // Notes a sector that a file may use and that was not met before; answers whether it is one.
+    pub(crate) fn meet(&mut self, n: u16) -> bool
+        ensures value { result ≡ (usable (disk_of self.old.disk) n && not (bit_of self.old.met.bits n)) }
+        ensures after { result ≡ true → bit_of self.new.met.bits ≡ also n (bit_of self.old.met.bits) }
+        ensures names { self.new.names ≡ self.old.names }
+        ensures same { Keeps self.old.disk self.new.disk }
+    {
+        n >= RESERVED && self.met.give(n)
+    }
 
-// Notes a sector that a file may use and that was not met before; answers whether it is one.
-pub(crate) fn meet(met: &mut BitMap, n: u16) -> bool
-    ensures value { result ≡ ((nat_le 36 n && nat_lt n met.old.sectors) && not (bit_of met.old.bits n)) }
-    ensures span { met.new.sectors ≡ met.old.sectors }
-    ensures after { result ≡ true → bit_of met.new.bits ≡ also n (bit_of met.old.bits) }
-{
-    n >= RESERVED && met.give(n)
-}
+    // Goes along a link to a sector that must be met for the first time and lead back; answers the link from there.
+    #[tactic(auto, unfolding(crate::specs::Survey::walk_on))]
+    fn step(&mut self, link: Link) -> Result<Link, Fault>
+        requires { Leads (disk_of self.old.disk) link }
+        ensures steps { Steps (disk_of self.old.disk) (bit_of self.old.met.bits) link result (bit_of self.new.met.bits) }
+        ensures names { self.new.names ≡ self.old.names }
+        ensures same { Keeps self.old.disk self.new.disk }
+    {
+        if !self.meet(link.to) {
+            return Err(structure_fault(Code::PointerError, link.from));
+        }
+        let sector = self.disk.fetch(link.to)?;
+        if sector.back != link.from {
+            return Err(structure_fault(Code::PointerError, link.to));
+        }
+        Ok(Link {
+            from: link.to,
+            to: sector.forward,
+        })
+    }
 
-// Goes from `here` to the sector that its forward link names, which must be met for the first time and lead back; answers the next link.
-fn step<D: ReadingDevice>(
-    device: &mut D,
-    met: &mut BitMap,
-    here: u16,
-    there: u16,
-) -> Result<u16, Fault>
-    requires ready { Readable (D.ReadingDevice.medium device.old) }
-    requires spans { met.old.sectors ≡ length (D.ReadingDevice.medium device.old).sectors }
-    requires leads { there ≡ (sector_at (D.ReadingDevice.medium device.old).sectors here).forward }
-    ensures steps { Steps (D.ReadingDevice.medium device.old).sectors (bit_of met.old.bits) here there result (bit_of met.new.bits) }
-    ensures span { met.new.sectors ≡ met.old.sectors }
-    ensures same { D.ReadingDevice.medium device.new ≡ D.ReadingDevice.medium device.old }
-{
-    if !meet(met, there) {
-        return Err(structure_fault(Code::PointerError, here));
+    // Goes over as many records as the count says; answers the sector where it ends.
+    #[tactic(auto, using(crate::proofs::WalkSteps::walk_more, crate::proofs::WalkSteps::walk_over))]
+    pub(crate) fn walk(&mut self, start: Link, count: u16) -> Result<u16, Fault>
+        requires { Leads (disk_of self.old.disk) start }
+        ensures walks { Walks (walk_on (disk_of self.old.disk) (bit_of self.old.met.bits) start.from count) result (bit_of self.new.met.bits) }
+        ensures names { self.new.names ≡ self.old.names }
+        ensures same { Keeps self.old.disk self.new.disk }
+    {
+        let mut link = start;
+        for _ in 0..count {
+            link = self.step(link)?;
+        }
+        if link.to != NULL_LINK {
+            return Err(structure_fault(Code::PointerError, link.from));
+        }
+        Ok(link.from)
     }
-    let sector = fetch(device, there)?;
-    if sector.back != here {
-        return Err(structure_fault(Code::PointerError, there));
-    }
-    Ok(sector.forward)
-}
-
-// Goes over as many records as the count says, from `at`, whose forward link is `forward`; answers the sector where it ends.
-pub(crate) fn walk<D: ReadingDevice>(
-    device: &mut D,
-    met: &mut BitMap,
-    at: u16,
-    forward: u16,
-    count: u16,
-) -> Result<u16, Fault>
-    requires ready { Readable (D.ReadingDevice.medium device.old) }
-    requires spans { met.old.sectors ≡ length (D.ReadingDevice.medium device.old).sectors }
-    requires leads { forward ≡ (sector_at (D.ReadingDevice.medium device.old).sectors at).forward }
-    ensures walks { Walks (walk_on (D.ReadingDevice.medium device.old).sectors (bit_of met.old.bits) at count) result (bit_of met.new.bits) }
-    ensures span { met.new.sectors ≡ met.old.sectors }
-    ensures same { D.ReadingDevice.medium device.new ≡ D.ReadingDevice.medium device.old }
-{
-    let mut here = at;
-    let mut next = forward;
-    for _ in 0..count {
-        let after = step(device, met, here, next)?;
-        here = next;
-        next = after;
-    }
-    if next != NULL_LINK {
-        return Err(structure_fault(Code::PointerError, here));
-    }
-    Ok(here)
 }
