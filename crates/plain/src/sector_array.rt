@@ -103,8 +103,8 @@ fn refusal(code: Code) -> Fault
     }
 }
 
-// A sector of these parts, and what a device has to know of each of its sectors: a slice and a number tell a proof what fits
-// them, and the fields of a struct do not.
+// A sector of these parts, and what a device has to know of each of its sectors.
+// The parts come one by one: what their types say is known of a parameter, and not of a field.
 fn joined(bytes: &[u8], back: u16, forward: u16) -> Sector
     requires { length bytes.now ≡ 128 }
     ensures same { result ≡ record { bytes = bytes.entry.now; back = back; forward = forward } }
