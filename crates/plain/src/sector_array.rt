@@ -1,6 +1,5 @@
 // A device over a vector of sectors, with a door and a tab.
 ghost use Rattle.std.specs.Prelude.{◌≡◌, ◌<◌, false, length, slice_index_or};
-ghost use Rattle.std.specs.List.{AllByRecursion};
 ghost use Rattle.device.specs.Device.{WellFormed, blank, device_fault, wrote};
 ghost use Rattle.plain.specs.Arrays.{array_medium};
 
