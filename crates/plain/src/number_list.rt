@@ -1,5 +1,5 @@
 // An allocator over a vector of the free numbers, in no order.
-ghost use Rattle.std.specs.Prelude.{◌≡◌, ℕ, ◌<◌, ◌≤◌, true, false, [], IfOk, if◌then◌else◌, vec_len, vec_capacity, nat_eq};
+ghost use Rattle.std.specs.Prelude.{◌≡◌, ℕ, ◌<◌, ◌≤◌, true, [], IfOk, vec_len, vec_capacity};
 ghost use Rattle.freespace.specs.Sets.{counted};
 ghost use Rattle.plain.specs.Members.{listed};
 
