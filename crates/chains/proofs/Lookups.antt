@@ -3,7 +3,7 @@ use Rattle.std.proofs.Common.{◌≡◌, ℕ, ◌+◌, ◌-◌, ◌*◌, ◌/◌
 use Rattle.std.specs.Option.{option_or}
 use Rattle.std.specs.Simd.{first_chunks}
 use Rattle.std.proofs.lemmas.Bool.{and_left, ne_eqb, le-leb}
-use Rattle.std.proofs.lemmas.List.{append_assoc, take_at, at_drop_more, drop-drop, drop_more, drop_all, get_or-append_right}
+use Rattle.std.proofs.lemmas.List.{append_assoc, take_at, drop-drop, drop_more, drop_all, get_or-append_right}
 use Rattle.device.specs.declared.fault.Fault.{Fault}
 use Rattle.device.specs.declared.sector.Sector.{Sector}
 use Rattle.device.specs.Device.{Medium, fetched}
@@ -39,11 +39,6 @@ listed_seen n l p at bs o z y a e = rw (z, y) (λ i. record { file = (e ∙ λ j
 abbrev pub places_seen : List ℕ → Lookup → ℕ → List (List ℕ) → Lookup
 places_seen n l p [] = l
 places_seen n l p (bs ∷ rest) = places_seen n (place_seen n l p bs) (p + 1) rest
-
-pub one_seen : (n : List ℕ) (l : Lookup) (p k : ℕ) (ps : List (List ℕ)) (d : List ℕ) → k < length ps → places_seen n l (p + k) (drop k ps) ≡ places_seen n (place_seen n l (p + k) (get_or ps k d)) (p + (k + 1)) (drop (k + 1) ps)
-one_seen n l p k ps d h =
-    let next : p + k + 1 ≡ p + (k + 1) = omega arith in
-    at_drop_more (places_seen n l (p + k)) ps k d h ∙ ap (λ q. places_seen n (place_seen n l (p + k) (get_or ps k d)) q (drop (k + 1) ps)) next
 
 pub three_seen : (n : List ℕ) (l : Lookup) (p : ℕ) (bs : List ℕ) → places_seen n l p (first_chunks 40 3 bs) ≡ sector_seen n l p bs
 three_seen n l p bs =

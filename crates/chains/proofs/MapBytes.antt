@@ -7,21 +7,12 @@ use Rattle.std.proofs.lemmas.Bool.{cases_Bool, eqb-true, eqb-false}
 use Rattle.std.proofs.lemmas.Nat.{or_comm, or_shifted}
 use Rattle.std.proofs.Math.Nat.{pow-suc}
 use Rattle.std.proofs.Math.Pow.{pow-lt}
-use Rattle.chains.specs.Layout.{bit, map_byte}
+use Rattle.chains.specs.Layout.{bit}
 
 -- the bits for k sectors from n on
 abbrev pub low_bits : (ℕ → Bool) → ℕ → ℕ → ℕ
 low_bits m n zero = 0
 low_bits m n (suc k) = low_bits m n k + bit (m (n + k)) (2 ^ k)
-
-eight : (a b c d e f g h : ℕ) → 0 + a + b + c + d + e + f + g + h ≡ a + (b + (c + (d + (e + (f + (g + h))))))
-eight a b c d e f g h = omega arith
-
-pub all_bits : (m : ℕ → Bool) (n : ℕ) → low_bits m n 8 ≡ map_byte m n
-all_bits m n =
-    let first : n + 0 ≡ n = omega arith in
-    eight (bit (m (n + 0)) 1) (bit (m (n + 1)) 2) (bit (m (n + 2)) 4) (bit (m (n + 3)) 8) (bit (m (n + 4)) 16) (bit (m (n + 5)) 32) (bit (m (n + 6)) 64) (bit (m (n + 7)) 128)
-    ∙ ap (λ k. bit (m k) 1 + (bit (m (n + 1)) 2 + (bit (m (n + 2)) 4 + (bit (m (n + 3)) 8 + (bit (m (n + 4)) 16 + (bit (m (n + 5)) 32 + (bit (m (n + 6)) 64 + bit (m (n + 7)) 128))))))) first
 
 bit_most : (b : Bool) (v : ℕ) → bit b v ≤ v
 bit_most true v = omega arith

@@ -1,8 +1,7 @@
 -- Zeros behind a row of bytes.
-use Rattle.std.proofs.Common.{◌≡◌, ℕ, ◌+◌, ◌-◌, ◌/◌, ◌%◌, ◌^◌, ◌<◌, ◌≤◌, w16, List, [], ◌∷◌, ◌++◌, length, replicate, ap, ◌∙◌, arith}
+use Rattle.std.proofs.Common.{◌≡◌, ℕ, ◌+◌, ◌-◌, ◌≤◌, List, ◌++◌, length, replicate, ap, ◌∙◌, arith}
 use Rattle.std.proofs.lemmas.List.{append_assoc, length-append, length-replicate, replicate-append-replicate}
-use Rattle.std.specs.Int.{to_le_bytes}
-use Rattle.chains.specs.Layout.{padded, word}
+use Rattle.chains.specs.Layout.{padded}
 
 -- some of the zeros may stand there before
 pub padded_more : (n k : ℕ) (xs : List ℕ) → length xs + k ≤ n → padded n (xs ++ replicate k 0) ≡ padded n xs
@@ -20,7 +19,3 @@ pub padded_two : (n k : ℕ) (xs ys : List ℕ) → length xs + (length ys + k) 
 padded_two n k xs ys h =
     let left : n - length (xs ++ ys) ≡ k = omega (arith, length-append xs ys) in
     ap (λ (m : ℕ). (xs ++ ys) ++ replicate m 0) left ∙ append_assoc xs ys (replicate k 0)
-
--- 16 bits as two bytes
-pub low_high : (n : ℕ) → n < 2 ^ 16 → to_le_bytes w16 n ≡ word n
-low_high n h = let high : n / 256 % 256 ≡ n / 256 = omega arith in λ i. n % 256 ∷ high i ∷ []

@@ -151,6 +151,3 @@ module _ (d : Layout) (m : Medium) (laid : LaidOut d m.sectors) (s : ℕ) (size 
   saved now r value after shut off =
       let ok = value ∙ map_stored shut off in
       (ok, done_is (written_over (remapped_all m.sectors (marks_by s free)) m) m now r after ok ∙ map_saved)
-
-pub unsaved : (done m now : Medium) (r : Result Unit Fault) → now ≡ cond (is_ok r) done m → is_ok r ≡ false → now ≡ m
-unsaved done m now r after fails = after ∙ ap (λ (b : Bool). cond b done m) fails

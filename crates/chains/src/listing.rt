@@ -31,6 +31,7 @@ impl FileEntry {
 }
 
 // Place p in the bytes of its sector, which holds three.
+#[tactic(auto, using(crate::proofs::Listings::third_of))]
 fn place_in(bytes: &[u8; 128], p: u16) -> &[u8; 40]
     ensures { result.now ≡ take 40 (drop (40 * (p % 3)) bytes.now) }
 {
