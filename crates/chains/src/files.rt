@@ -1,6 +1,5 @@
 // One place of the directory and its file: descriptor and records.
 ghost use Rattle.std.specs.Prelude.{◌≡◌, ◌+◌, ◌<◌, ◌≤◌, not, ◌&&◌, length};
-ghost use Rattle.device.specs.Device.{WellFormed};
 ghost use Rattle.chains.specs.NameBytes.{name_bytes};
 ghost use Rattle.chains.specs.Reading.{sector_at, usable};
 ghost use Rattle.chains.specs.Survey.{file_on, last_field, place_on};
