@@ -1,7 +1,6 @@
 // One place of the directory and its file: descriptor and records.
 ghost use Rattle.std.specs.Prelude.{◌≡◌, ◌+◌, ◌<◌, ◌≤◌, not, ◌&&◌, length};
 ghost use Rattle.arrayvec.specs.ArrayVec.{array_vec_len};
-ghost use Rattle.device.specs.Device.{WellFormed};
 ghost use Rattle.chains.specs.NameBytes.{name_bytes};
 ghost use Rattle.chains.specs.Reading.{sector_at, usable};
 ghost use Rattle.chains.specs.Survey.{file_on, last_field, place_on};

@@ -1,5 +1,5 @@
 // A disk that is being read, and what was met on it so far.
-ghost use Rattle.std.specs.Prelude.{◌≡◌, ◌<◌, ◌≤◌, length, IfOk, Ok};
+ghost use Rattle.std.specs.Prelude.{◌≡◌, ◌<◌, length, IfOk, Ok};
 ghost use Rattle.std.proofs.Props.{props};
 ghost use Rattle.device.specs.Device.{WellFormed};
 ghost use Rattle.chains.specs.Reading.{sector_at};
