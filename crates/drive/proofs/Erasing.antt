@@ -34,7 +34,7 @@ use Rattle.drive.specs.Erasing.{Erased, Finds, GivesBack, Knows, LeavesErased, R
 use Rattle.drive.specs.Parts.{done_answer, from_fault}
 use Rattle.drive.specs.Serves.{Represents, Serving, ServesAlone, view, told_by}
 use Rattle.drive.specs.Units.{any_named, unit_of}
-use Rattle.drive.proofs.Formatting.{answer_of, passed, sixteen}
+use Rattle.drive.proofs.Formatting.{answer_of, passed}
 use Rattle.drive.proofs.Refusals.{by_fault, refusal_by_fault, no_sector}
 use Rattle.drive.proofs.Steps.{served, turned_down}
 
@@ -140,35 +140,35 @@ module _ {D S : Type 0} (r : Reading D) (n : List ℕ) (d : Drive D S) (device :
   abbrev after_found : Result Lookup Fault → Result Located Fault
   after_found y = next y (λ z. next (found_or_fault z.file) (last_refusal (r.medium device).tab))
 
-  finds_by : (x : Result Located Fault) → (length d.state.units ≡ 16 → x ≡ after_found lookup) → Finds r n d x looked
+  finds_by : (x : Result Located Fault) → x ≡ after_found lookup → Finds r n d x looked
   finds_by x is =
       record {
         same = record { medium = same; allocator = refl; state = refl };
-        found = λ sixteen l laid.
+        found = λ l laid.
             let on = first_passed d.state.initialized (r.medium d.device).door n first in
-            is sixteen
+            is
             ∙ (ap after_found (looks l (laid on.0) on.1)
             ∙ (ap (λ (m : Medium). next (found_or_fault (located n 0 l.places)) (last_refusal m.tab)) same
             ∙ ap (λ y. next y (λ _. next (found_or_fault (located n 0 l.places)) (last_refusal (r.medium d.device).tab))) first));
       }
 
   pub finds_unread : (x : Result Located Fault) (f : Fault) → x ≡ Err f → lookup ≡ Err f → Finds r n d x looked
-  finds_unread x f is was = finds_by x (λ _. is ∙ ap after_found (sym was))
+  finds_unread x f is was = finds_by x (is ∙ ap after_found (sym was))
 
   module _ (z : Lookup) (was : lookup ≡ Ok z) where
     by_file : (o : Option Located) → z.file ≡ o → next (found_or_fault o) (last_refusal (r.medium device).tab) ≡ after_found lookup
     by_file o is = ap (λ y. next (found_or_fault y) (last_refusal (r.medium device).tab)) (sym is) ∙ ap after_found (sym was)
 
     pub finds_absent : (f : Fault) → z.file ≡ None → f ≡ plain_fault FileNotFound Request → Finds r n d (Err f) looked
-    finds_absent f none is = finds_by (Err f) (λ _. ap Err is ∙ by_file None none)
+    finds_absent f none is = finds_by (Err f) (ap Err is ∙ by_file None none)
 
     pub finds_in_use : (x : Result Located Fault) (y : Located) (f : Fault) → x ≡ Err f → z.file ≡ Some y →
-        (length d.state.units ≡ 16 → Err f ≡ first_fault (after_look_up (any_named n d.state.units) (r.medium device).tab)) → Finds r n d x looked
-    finds_in_use x y f is there refused = finds_by x (λ sixteen. is ∙ (ap (λ w. next w (λ _. Ok y)) (refused sixteen) ∙ by_file (Some y) there))
+        Err f ≡ first_fault (after_look_up (any_named n d.state.units) (r.medium device).tab) → Finds r n d x looked
+    finds_in_use x y f is there refused = finds_by x (is ∙ (ap (λ w. next w (λ _. Ok y)) refused ∙ by_file (Some y) there))
 
     pub finds_there : (y : Located) → z.file ≡ Some y →
-        (length d.state.units ≡ 16 → Ok tt ≡ first_fault (after_look_up (any_named n d.state.units) (r.medium device).tab)) → Finds r n d (Ok y) looked
-    finds_there y there unused = finds_by (Ok y) (λ sixteen. ap (λ w. next w (λ _. Ok y)) (unused sixteen) ∙ by_file (Some y) there)
+        Ok tt ≡ first_fault (after_look_up (any_named n d.state.units) (r.medium device).tab) → Finds r n d (Ok y) looked
+    finds_there y there unused = finds_by (Ok y) (ap (λ w. next w (λ _. Ok y)) unused ∙ by_file (Some y) there)
 
 -- ---- all of it: d before, k after the file was found, e in the end
 
@@ -201,16 +201,16 @@ may_erase i door n o held tab x e =
 
 module _ {D S : Type 0} (r : Reading D) (a : Allocating S) (n : List ℕ) (d k : Drive D S) where
   pub tries_refused : (y : Result Unit Fault) (f : Fault) → y ≡ Err f → Finds r n d (Err f) k → TriesErasing r a n d y k
-  tries_refused y f is finds sixteen l knows = record {
-    answer = is ∙ ap (λ z. next z (λ _. Ok tt)) (finds.found sixteen l (λ on. (knows on).laid));
+  tries_refused y f is finds l knows = record {
+    answer = is ∙ ap (λ z. next z (λ _. Ok tt)) (finds.found l (λ on. (knows on).laid));
     leaves = subst (λ z. LeavesErased r a n l d z k) (sym is) finds.same;
   }
 
   pub tries_done : (x : Located) (e : Drive D S) (y : Result Unit Fault) → Finds r n d (Ok x) k → Removes r a x k y e → TriesErasing r a n d y e
-  tries_done x e y finds removes sixteen l knows =
+  tries_done x e y finds removes l knows =
       let m = r.medium d.device in
       let same = finds.same in
-      let answer = finds.found sixteen l (λ on. (knows on).laid) in
+      let answer = finds.found l (λ on. (knows on).laid) in
       let may = may_erase d.state.initialized m.door n (located n 0 l.places) (any_named n d.state.units) m.tab x answer in
       let known = knows may.initialized in
       let does =
@@ -304,7 +304,7 @@ module _ {D S : Type 0} (r : Reading D) (a : Allocating S) (n : List ℕ) (d e :
   answered_as : (y : Result Unit Fault) → TriesErasing r a n d y e → y ≡ first_fault model_checks
   answered_as y does =
       let own = some_layout b.initialized refl in
-      (does (sixteen r a b d rep) own.0 (known own.0 own.1)).answer ∙ same_checks own.0 own.1
+      (does own.0 (known own.0 own.1)).answer ∙ same_checks own.0 own.1
 
   outcome_is : (y : Result Unit Fault) → y ≡ first_fault model_checks → o ≡ by_fault b buf gone y
   outcome_is y is = refusal_by_fault b buf model_checks gone ∙ ap (by_fault b buf gone) (sym is)
@@ -314,7 +314,7 @@ module _ {D S : Type 0} (r : Reading D) (a : Allocating S) (n : List ℕ) (d e :
       let err = answered_as (Err f) does in
       let is_refusal = outcome_is (Err f) err in
       let own = some_layout b.initialized refl in
-      let same = (does (sixteen r a b d rep) own.0 (known own.0 own.1)).leaves in
+      let same = (does own.0 (known own.0 own.1)).leaves in
       turned_down r a b call d e (told_by ans [] buf) rep (λ i. let z : ◌≡◌ {A = ℕ} 0 1 = cc in absurd (omega arith))
       (ap told is_refusal ∙ (ap (λ k. told_by (record { code = f.code; length = 0; layer = f.layer; sector = k }) [] buf) (sym (no_sector model_checks f (sym err))) ∙ ap (λ x. told_by x [] buf) (sym is)))
       (ap (λ x. x.refused) is_refusal) same.medium (λ k. ap (λ s. a.member s k) same.allocator) (ap a.span same.allocator) same.state
@@ -338,7 +338,7 @@ module _ {D S : Type 0} (r : Reading D) (a : Allocating S) (n : List ℕ) (d e :
       let done_is : o ≡ gone = outcome_is (Ok tt) ok in
       let there = accepted_then ok in
       let own = v.laid there.0 in
-      let after : Erased r a n own.0 d e = (does (sixteen r a b d rep) own.0 (known own.0 (λ _. (own.1, own.2)))).leaves in
+      let after : Erased r a n own.0 d e = (does own.0 (known own.0 (λ _. (own.1, own.2)))).leaves in
       served r a b call d e (told_by ans [] buf) rep (λ i. let z : ◌≡◌ {A = ℕ} 0 1 = cc in absurd (omega arith))
       (ap told done_is ∙ ap (λ x. told_by x [] buf) (sym is))
       (record {
@@ -350,7 +350,7 @@ module _ {D S : Type 0} (r : Reading D) (a : Allocating S) (n : List ℕ) (d e :
         untouched = λ refused. absurd (false≢true (sym (ap (λ x. x.refused) done_is) ∙ refused));
         still_free = λ refused _. absurd (false≢true (sym (ap (λ x. x.refused) done_is) ∙ refused));
         changed = λ _ l laid _.
-            let left : Erased r a n l d e = (does (sixteen r a b d rep) l (known l laid)).leaves in
+            let left : Erased r a n l d e = (does l (known l laid)).leaves in
             record {
               taken = [];
               count = sym (ap (λ x. x.added) done_is);

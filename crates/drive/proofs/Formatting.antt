@@ -1,6 +1,5 @@
 -- The promise of FORMAT, from what its code does.
 use Rattle.std.proofs.Common.{◌≡◌, ℕ, Bool, true, false, cond, not, ◌&&◌, ltb, leb, List, [], map, length, Ok, Err, Result, sym, refl, ap, ◌∙◌, arith}
-use Rattle.std.proofs.lemmas.List.{length-map}
 use Rattle.std.proofs.lemmas.Bool.{and_parts, false≢true, not-false}
 use Rattle.device.specs.Device.{Medium}
 use Rattle.device.specs.declared.fault.Fault.{Fault}
@@ -67,9 +66,6 @@ formats_done r a id d e size filled accepted medium is fits span free state =
       state = state;
     }
 
-pub sixteen : {D S : Type 0} (r : Reading D) (a : Allocating S) (b : Model) (d : Drive D S) → Represents r a b d → length d.state.units ≡ 16
-sixteen r a b d rep = sym (length-map d.state.units unit_of) ∙ (ap length rep.tallies.units ∙ rep.tallies.orderly.units)
-
 module _ {D S : Type 0} (r : Reading D) (a : Allocating S) (d : Drive D S) (id : List ℕ) where
   abbrev m : Medium
   m = r.medium d.device
@@ -125,6 +121,6 @@ module _ {D S : Type 0} (r : Reading D) (a : Allocating S) (d : Drive D S) (id :
       (ap (λ s. s.files) state ∙ sym (ap (λ x. length x.after.files) o))
       (λ _. does.span ∙ (v.size ∙ sym (ap (λ x. x.after.size) o)))
 
-  pub format_promise : (e : Drive D S) (x : Result Unit Fault) (ans : Answer) → (length d.state.units ≡ 16 → Formats r a id d x e) → ans ≡ answer_of x → ServesAlone r a (Format id) d ans [] e
-  format_promise e (Err f) ans does is buf b rep = refused e f ans (does (sixteen r a b d rep)) is buf b rep
-  format_promise e (Ok u) ans does is buf b rep = accepted e ans (does (sixteen r a b d rep)) is buf b rep
+  pub format_promise : (e : Drive D S) (x : Result Unit Fault) (ans : Answer) → Formats r a id d x e → ans ≡ answer_of x → ServesAlone r a (Format id) d ans [] e
+  format_promise e (Err f) ans does is buf b rep = refused e f ans does is buf b rep
+  format_promise e (Ok u) ans does is buf b rep = accepted e ans does is buf b rep

@@ -27,7 +27,7 @@ use Rattle.drive.specs.Parts.{Initializes, ReadsIn, TakesOver, TurnsAway, done_a
 use Rattle.drive.specs.Serves.{Represents, Serving, ServesAlone, view, told_by}
 use Rattle.drive.specs.Units.{any_open, is_open, unit_of}
 use Rattle.drive.proofs.Examining.{readable}
-use Rattle.drive.proofs.Formatting.{answer_of, passed, sixteen}
+use Rattle.drive.proofs.Formatting.{answer_of, passed}
 use Rattle.drive.proofs.Refusals.{by_fault, refusal_by_fault, no_sector}
 use Rattle.drive.proofs.Steps.{served, turned_down}
 
@@ -219,6 +219,6 @@ module _ {D S : Type 0} (r : Reading D) (a : Allocating S) (d e : Drive D S) (bu
         checked f ans reads err (is ∙ ap answer_of same.0) does.medium same.1 same.2
     serving (Ok u) ok = read_then ok b.initialized refl
 
-pub initialize_promise : {D S : Type 0} (r : Reading D) (a : Allocating S) (d e : Drive D S) (x : Result Unit Fault) (ans : Answer) → (length d.state.units ≡ 16 → Initializes r a d x e) → ans ≡ answer_of x → ServesAlone r a Initialize d ans [] e
+pub initialize_promise : {D S : Type 0} (r : Reading D) (a : Allocating S) (d e : Drive D S) (x : Result Unit Fault) (ans : Answer) → Initializes r a d x e → ans ≡ answer_of x → ServesAlone r a Initialize d ans [] e
 initialize_promise r a d e x ans does is buf b rep =
-    serving r a d e buf b rep x ans is (does (sixteen r a b d rep)) (first_fault (own_initialize_checks r d)) refl
+    serving r a d e buf b rep x ans is does (first_fault (own_initialize_checks r d)) refl

@@ -1,5 +1,5 @@
 -- What the code of ERASE does to the parts of a drive.
-use Rattle.std.specs.Prelude.{◌≡◌, ℕ, ◌+◌, ◌-◌, ◌/◌, ◌<◌, Bool, true, false, not, ◌||◌, List, [], ◌∷◌, map, length, Some, None, Ok, Err, Option, Result, ◌==◌, slice_index_or, slice_set}
+use Rattle.std.specs.Prelude.{◌≡◌, ℕ, ◌+◌, ◌-◌, ◌/◌, ◌<◌, Bool, true, false, not, ◌||◌, List, [], ◌∷◌, map, Some, None, Ok, Err, Option, Result, ◌==◌, slice_index_or, slice_set}
 use Rattle.device.specs.Device.{Medium, wrote}
 use Rattle.device.specs.declared.fault.Code.TheVariants.{AlreadyOpen, BadName, FileNotFound, NotInitialized}
 use Rattle.device.specs.declared.fault.Fault.{Fault}
@@ -54,11 +54,11 @@ pub record Untouched {D S : Type 0} (r : Reading D) (d e : Drive D S) : Type 0 w
 -- looking for the file to erase answers x, whatever layout the disk shows
 pub record Finds {D S : Type 0} (r : Reading D) (n : List ℕ) (d : Drive D S) (x : Result Located Fault) (e : Drive D S) : Type 0 where
   pub same : Untouched r d e
-  pub found : length d.state.units ≡ 16 → (l : Layout) → (d.state.initialized ≡ true → LaidOut l (r.medium d.device).sectors) → x ≡ own_erasable r n d l
+  pub found : (l : Layout) → (d.state.initialized ≡ true → LaidOut l (r.medium d.device).sectors) → x ≡ own_erasable r n d l
 
 -- one file less, and the map is up to date
 abbrev pub less_one : State → State
-less_one s = record { initialized = s.initialized; changed = false; files = s.files - 1; units = s.units }
+less_one s = record { initialized = s.initialized; changed = false; files = s.files - 1; units = s.units; sixteen = s.sixteen }
 
 -- the disk shows this layout, and the allocator has the sectors that it leaves free
 pub record Knows {D S : Type 0} (r : Reading D) (a : Allocating S) (d : Drive D S) (l : Layout) : Type 0 where
@@ -110,4 +110,4 @@ pub record Erases {D S : Type 0} (r : Reading D) (a : Allocating S) (n : List �
   pub leaves : LeavesErased r a n l d y e
 
 abbrev pub TriesErasing : {D S : Type 0} → Reading D → Allocating S → List ℕ → Drive D S → Result Unit Fault → Drive D S → Type 0
-TriesErasing r a n d y e = length d.state.units ≡ 16 → (l : Layout) → (d.state.initialized ≡ true → Knows r a d l) → Erases r a n l d y e
+TriesErasing r a n d y e = (l : Layout) → (d.state.initialized ≡ true → Knows r a d l) → Erases r a n l d y e

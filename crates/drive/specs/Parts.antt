@@ -37,15 +37,15 @@ from_fault f = record { code = f.code; length = 0; layer = f.layer; sector = f.s
 
 -- initialised, with no file and a map that is up to date
 abbrev pub formatted_state : State → State
-formatted_state s = record { initialized = true; changed = false; files = 0; units = s.units }
+formatted_state s = record { initialized = true; changed = false; files = 0; units = s.units; sixteen = s.sixteen }
 
 -- initialised, with so many files and a map that is up to date
 abbrev pub started_state : ℕ → State → State
-started_state n s = record { initialized = true; changed = false; files = n; units = s.units }
+started_state n s = record { initialized = true; changed = false; files = n; units = s.units; sixteen = s.sixteen }
 
 -- nothing is known of the disk
 abbrev pub unread_state : State → State
-unread_state s = record { initialized = false; changed = false; files = 0; units = s.units }
+unread_state s = record { initialized = false; changed = false; files = 0; units = s.units; sixteen = s.sixteen }
 
 -- no longer initialised, if it was
 abbrev pub forgotten : State → State

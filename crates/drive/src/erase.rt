@@ -62,7 +62,7 @@ impl<D: WritingDevice, A: SectorAllocator> Drive<D, A> {
 
     // The refusals of a file that is there.
     fn check_unused(&self, name: &[u8]) -> Result<(), Fault>
-        ensures { length self.now.state.units ≡ 16 → result ≡ first_fault (after_look_up (any_named name.now self.now.state.units) (D.ReadingDevice.medium self.now.device).tab) }
+        ensures { result ≡ first_fault (after_look_up (any_named name.now self.now.state.units) (D.ReadingDevice.medium self.now.device).tab) }
     {
         if self.state.some_holds(name) {
             return Err(request_fault(Code::AlreadyOpen));

@@ -1,5 +1,5 @@
 // The drive's own state: its marks, the number of its files, and its sixteen units.
-ghost use Rattle.std.specs.Prelude.{◌≡◌, ◌-◌, ◌<◌, true, false, map, length, replicate, slice_index_or, slice_set};
+ghost use Rattle.std.specs.Prelude.{◌≡◌, ◌<◌, false, map, length, replicate, slice_index_or, slice_set};
 ghost use Rattle.rules.specs.Model.{closed, has_name};
 ghost use Rattle.drive.specs.declared.units.Unit.{Unit as Slot};
 ghost use Rattle.drive.specs.Checks.{plain_fault};
@@ -69,10 +69,7 @@ impl Unit {
     pub(crate) fn is_open(&self) -> bool
         ensures { result ≡ is_open (unit_of self.now) }
     {
-        match self.state {
-            UnitState::Closed => false,
-            UnitState::Open { .. } => true,
-        }
+        matches!(self.state, UnitState::Open { .. })
     }
 
     // The state that a request leads to from the one that the unit is in: a closed unit can only be opened, an open one not again.
@@ -133,10 +130,12 @@ pub struct State {
     pub(crate) changed: bool,
     pub(crate) files: u16,
     pub(crate) units: [Unit; 16],
+    ghost sixteen: { length units ≡ 16 },
 }
 
 impl State {
-    ghost use Rattle.drive.specs.Parts.{forgotten};
+    ghost use Rattle.drive.specs.Erasing.{less_one};
+    ghost use Rattle.drive.specs.Parts.{forgotten, started_state};
 
     // Not initialised, no file, and every unit closed.
     pub(crate) fn new() -> State
@@ -159,10 +158,7 @@ impl State {
 
     // The disk is new, or was read: it has so many files, and its map is up to date.
     pub(crate) fn start(&mut self, files: u16)
-        ensures initialized { self.new.initialized ≡ true }
-        ensures changed { self.new.changed ≡ false }
-        ensures files { self.new.files ≡ files }
-        ensures units { self.new.units ≡ self.old.units }
+        ensures { self.new ≡ started_state files self.old }
     {
         self.initialized = true;
         self.changed = false;
@@ -182,42 +178,29 @@ impl State {
 
     // A file was erased, and the map was saved with it.
     pub(crate) fn lose_file(&mut self)
-        ensures initialized { self.new.initialized ≡ self.old.initialized }
-        ensures changed { self.new.changed ≡ false }
-        ensures files { self.new.files ≡ self.old.files - 1 }
-        ensures units { self.new.units ≡ self.old.units }
+        ensures { self.new ≡ less_one self.old }
     {
         self.changed = false;
         self.files = self.files.saturating_sub(1);
     }
 
     pub(crate) fn some_open(&self) -> bool
-        ensures { length self.now.units ≡ 16 → result ≡ any_open self.now.units }
+        ensures { result ≡ any_open self.now.units }
     {
-        for unit in &self.units {
-            if unit.is_open() {
-                return true;
-            }
-        }
-        false
+        self.units.iter().any(Unit::is_open)
     }
 
     // Whether some unit holds the file of this name.
     pub(crate) fn some_holds(&self, name: &[u8]) -> bool
-        ensures { length self.now.units ≡ 16 → result ≡ any_named name.now self.now.units }
+        ensures { result ≡ any_named name.now self.now.units }
     {
-        for unit in &self.units {
-            if unit.has_name(name) {
-                return true;
-            }
-        }
-        false
+        self.units.iter().any(|unit| unit.has_name(name))
     }
 
     // Unit u as it stands.
     pub(crate) fn unit(&self, u: u16) -> Unit
         requires below { u < 16 }
-        ensures { length self.now.units ≡ 16 → (other : Slot) → slice_index_or self.now.units u other ≡ result }
+        ensures { (other : Slot) → slice_index_or self.now.units u other ≡ result }
     {
         self.units[u as usize]
     }

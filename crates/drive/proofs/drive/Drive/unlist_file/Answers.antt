@@ -22,10 +22,9 @@ returns g c = record {
   allocator = refl;
   after = λ l k laid low shut off shown free.
       let cleared = (c.in_ok-clear_entry.ensures.after l laid low shut off).1 in
-      let w = writable_as k _ _ cleared shown shut off in
-      let state = c.lose_file.ensures in (
+      let w = writable_as k _ _ cleared shown shut off in (
         refl,
         (c.in_ok-save_map.ensures.after k w.laid w.shut w.off free).1 ∙ ap (with_map k) cleared,
-        λ i. record { initialized = state.initialized i; changed = state.changed i; files = state.files i; units = state.units i },
+        c.lose_file.ensures,
       );
 }
