@@ -9,7 +9,7 @@ use Rattle.rules.specs.Served.{outcome}
 use Rattle.drive.specs.declared.drive.Drive.{Drive}
 use Rattle.drive.specs.declared.request.Exchange.{Exchange}
 use Rattle.drive.specs.Serves.{model_of, view}
-use Rattle.drive.specs.Exchanges.{call_of, told_of, ServingAll, ServesExchange, ServesNext, ServesAll, ServedTo, SameRequests, RunsIfFresh}
+use Rattle.drive.specs.Exchanges.{call_of, told_of, ServingAll, ServesExchange, ServesAll, ServedTo, SameRequests, RunsIfFresh}
 
 run_more : {b c : Model} {v v' v'' : View} {qs : List Call} {os : List Outcome} {q : Call} {o : Outcome} → Run b v qs os c v' → Step c v' q o v'' → Run b v (qs ++ q ∷ []) (os ++ o ∷ []) o.after v''
 run_more none s = more s none
@@ -50,8 +50,9 @@ pub none_served : {D S : Type 0} (r : Reading D) (a : Allocating S) (xs : List E
 none_served r a xs d = record { left = refl; long = refl; served = λ b rep. record { outcomes = []; answered = refl; last = b; run = none; represents = rep }; requests = refl }
 
 -- one more
-pub served_next : {D S : Type 0} (r : Reading D) (a : Allocating S) (i : ℕ) (ys : List Exchange) (e e' : Drive D S) (z y : Exchange) → i < length ys → ServesExchange r a e (get_or ys i z) y e' → y.request ≡ (get_or ys i z).request → ServesNext r a i ys e (set ys i y) e'
-served_next r a i ys e e' z y within serve same xs d s =
+pub served_next : {D S : Type 0} (r : Reading D) (a : Allocating S) (i : ℕ) (xs : List Exchange) (d : Drive D S) (ys : List Exchange) (e e' : Drive D S) (z y : Exchange) → i < length ys →
+    ServedTo r a i xs d ys e → ServesExchange r a e (get_or ys i z) y e' → y.request ≡ (get_or ys i z).request → ServedTo r a (i + 1) xs d (set ys i y) e'
+served_next r a i xs d ys e e' z y within s serve same =
     let inside : i < length xs = omega (arith, s.long) in
     record {
       left = left_more xs ys i y s.left;

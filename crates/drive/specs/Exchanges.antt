@@ -1,5 +1,5 @@
 -- Exchanges as the rules have them, and what serving one, a list, and a list from a new drive promises.
-use Rattle.std.specs.Prelude.{◌≡◌, ℕ, ◌+◌, List, [], ◌∷◌, map, length, take, drop, vec_items}
+use Rattle.std.specs.Prelude.{◌≡◌, ℕ, List, [], ◌∷◌, map, length, take, drop, vec_items}
 use Rattle.device.specs.Codes.{code_number}
 use Rattle.device.specs.declared.fault.Code.TheVariants.{Done}
 use Rattle.device.specs.declared.reading.ReadingDevice.{Ghosts as Reading}
@@ -67,10 +67,6 @@ pub record ServedTo {D S : Type 0} (r : Reading D) (a : Allocating S) (i : ℕ) 
   pub long : length ys ≡ length xs
   pub served : ServesAll r a d (take i xs) (take i ys) e
   pub requests : SameRequests (take i xs) (take i ys)
-
--- one more is served, whatever the first ones were
-abbrev pub ServesNext : {D S : Type 0} → Reading D → Allocating S → ℕ → List Exchange → Drive D S → List Exchange → Drive D S → Type 0
-ServesNext {D} {S} r a i ys e zs f = (xs : List Exchange) (d : Drive D S) → ServedTo r a i xs d ys e → ServedTo r a (i + 1) xs d zs f
 
 -- a new drive over this device and this allocator
 pub record Fresh {D S : Type 0} (r : Reading D) (a : Allocating S) (device : D) (allocator : S) (d : Drive D S) : Type 0 where

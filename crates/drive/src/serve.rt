@@ -1,6 +1,6 @@
 // Exchanges served, one and many.
-ghost use Rattle.std.specs.Prelude.{◌≡◌, ◌<◌, length};
-ghost use Rattle.drive.specs.Exchanges.{Replies, ServesExchange, ServesNext, ServesAll, RunsIfFresh, RunsThrough, SameRequests};
+ghost use Rattle.std.specs.Prelude.{◌≡◌};
+ghost use Rattle.drive.specs.Exchanges.{Replies, ServesExchange, ServesAll, RunsIfFresh, RunsThrough, SameRequests};
 
 use crate::answer::Answer;
 use crate::drive::Drive;
@@ -34,22 +34,14 @@ impl<D: WritingDevice, A: SectorAllocator> Drive<D, A> {
         exchange.reported = reported;
     }
 
-    // One more of a list of which i are served.
-    fn serve_next(&mut self, exchanges: &mut [Exchange], i: usize)
-        requires { i < length exchanges.old }
-        ensures { ServesNext D.ReadingDevice A.SectorAllocator i exchanges.old self.old exchanges.new self.new }
-    {
-        self.serve(&mut exchanges[i]);
-    }
-
     // Serves exchanges one after another.
     pub fn serve_all(&mut self, exchanges: &mut [Exchange])
         ensures served { ServesAll D.ReadingDevice A.SectorAllocator self.old exchanges.old exchanges.new self.new }
         ensures requests { SameRequests exchanges.old exchanges.new }
         ensures runs { RunsIfFresh D.ReadingDevice A.SectorAllocator self.old exchanges.old exchanges.new self.new }
     {
-        for i in 0..exchanges.len() {
-            self.serve_next(exchanges, i);
+        for exchange in exchanges.iter_mut() {
+            self.serve(exchange);
         }
     }
 }
