@@ -21,7 +21,8 @@ use Rattle.drive.specs.declared.drive.Drive.{Drive}
 use Rattle.drive.specs.declared.request.Usage.{Usage}
 use Rattle.drive.specs.Checks.{plain_fault}
 use Rattle.drive.specs.Exchanges.{Fresh}
-use Rattle.drive.specs.Parts.{Sets, done_answer, from_fault, own_usage}
+use Rattle.drive.specs.Answers.{done_answer, from_fault}
+use Rattle.drive.specs.Parts.{Sets, own_usage}
 use Rattle.drive.specs.Serves.{Represents, Serving, ServesAlone, view, told_by}
 use Rattle.drive.specs.Units.{unit_of}
 use Rattle.drive.proofs.Steps.{idle_effect, served, turned_down}

@@ -31,10 +31,10 @@ use Rattle.drive.specs.declared.answer.Answer.{Answer}
 use Rattle.drive.specs.declared.drive.Drive.{Drive}
 use Rattle.drive.specs.Checks.{plain_fault, first_fault}
 use Rattle.drive.specs.Erasing.{Erased, Finds, GivesBack, Knows, LeavesErased, Removes, TriesErasing, Unlists, after_look_up, before_look_up, erasable, found_or_fault, less_one, own_erasable, place_emptied}
-use Rattle.drive.specs.Parts.{done_answer, from_fault}
+use Rattle.drive.specs.Answers.{answer_of, done_answer, from_fault}
 use Rattle.drive.specs.Serves.{Represents, Serving, ServesAlone, view, told_by}
 use Rattle.drive.specs.Units.{any_named, unit_of}
-use Rattle.drive.proofs.Formatting.{answer_of, passed}
+use Rattle.drive.proofs.Formatting.{passed}
 use Rattle.drive.proofs.Refusals.{by_fault, refusal_by_fault, no_sector}
 use Rattle.drive.proofs.Steps.{served, turned_down}
 

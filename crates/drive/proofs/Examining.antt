@@ -12,10 +12,11 @@ use Rattle.chains.specs.Survey.{Tells}
 use Rattle.rules.specs.Model.{Model, Outcome, new_model, read_in}
 use Rattle.rules.specs.Runs.{as_reading, examined, told}
 use Rattle.drive.specs.declared.answer.Answer.{Answer}
+use Rattle.drive.specs.Answers.{answer_of}
 use Rattle.drive.specs.Checks.{first_fault, initialize_checks}
 use Rattle.drive.specs.Parts.{Examines, SameFault}
 use Rattle.drive.specs.Serves.{told_by}
-use Rattle.drive.proofs.Formatting.{answer_of, passed}
+use Rattle.drive.proofs.Formatting.{passed}
 use Rattle.drive.proofs.Refusals.{by_fault, refusal_by_fault, no_sector}
 
 module _ (m : Medium) where

@@ -14,16 +14,12 @@ use Rattle.rules.specs.Served.{outcome}
 use Rattle.drive.specs.declared.answer.Answer.{Answer}
 use Rattle.drive.specs.declared.drive.Drive.{Drive}
 use Rattle.drive.specs.Checks.{first_fault, format_checks}
-use Rattle.drive.specs.Parts.{Formats, done_answer, formatted_state, from_fault, own_checks}
+use Rattle.drive.specs.Answers.{answer_of, done_answer, from_fault}
+use Rattle.drive.specs.Parts.{Formats, formatted_state, own_checks}
 use Rattle.drive.specs.Serves.{Represents, ServesAlone, view, told_by}
 use Rattle.drive.specs.Units.{any_open, is_open, unit_of}
 use Rattle.drive.proofs.Refusals.{by_fault, refusal_by_fault, no_sector}
 use Rattle.drive.proofs.Steps.{served, turned_down}
-
--- what FORMAT answers
-abbrev pub answer_of : Result Unit Fault → Answer
-answer_of (Ok u) = done_answer
-answer_of (Err f) = from_fault f
 
 written_over : (id : List ℕ) (ss : Disk) (s : ℕ) → length ss ≡ s → formatted_disk id ss ≡ overwritten (fixed_sectors (formatted id s)) ss
 unfolding formatted_disk

@@ -22,12 +22,13 @@ use Rattle.rules.proofs.OnlySound.{only}
 use Rattle.rules.proofs.Rearranging.{as_long}
 use Rattle.drive.specs.declared.answer.Answer.{Answer}
 use Rattle.drive.specs.declared.drive.Drive.{Drive}
+use Rattle.drive.specs.Answers.{answer_of, done_answer, from_fault}
 use Rattle.drive.specs.Checks.{first_fault, initialize_checks}
-use Rattle.drive.specs.Parts.{Initializes, ReadsIn, TakesOver, TurnsAway, done_answer, from_fault, forgotten, own_initialize_checks, started_state, unread_state}
+use Rattle.drive.specs.Parts.{Initializes, ReadsIn, TakesOver, TurnsAway, forgotten, own_initialize_checks, started_state, unread_state}
 use Rattle.drive.specs.Serves.{Represents, Serving, ServesAlone, view, told_by}
 use Rattle.drive.specs.Units.{any_open, is_open, unit_of}
 use Rattle.drive.proofs.Examining.{readable}
-use Rattle.drive.proofs.Formatting.{answer_of, passed}
+use Rattle.drive.proofs.Formatting.{passed}
 use Rattle.drive.proofs.Refusals.{by_fault, refusal_by_fault, no_sector}
 use Rattle.drive.proofs.Steps.{served, turned_down}
 

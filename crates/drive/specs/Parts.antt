@@ -3,8 +3,8 @@ use Rattle.std.specs.Prelude.{◌≡◌, ℕ, ◌-◌, true, false, cond, not, �
 use Rattle.std.specs.List.{AllByRecursion}
 use Rattle.device.specs.Codes.{code_number}
 use Rattle.device.specs.Device.{Medium, WellFormed}
-use Rattle.device.specs.declared.fault.Code.TheVariants.{Done, NotInitialized}
-use Rattle.device.specs.declared.fault.Layer.TheVariants.{None, Request, Structure}
+use Rattle.device.specs.declared.fault.Code.TheVariants.{NotInitialized}
+use Rattle.device.specs.declared.fault.Layer.TheVariants.{Request, Structure}
 use Rattle.device.specs.declared.fault.Fault.{Fault}
 use Rattle.device.specs.declared.reading.ReadingDevice.{Ghosts as Reading}
 use Rattle.freespace.specs.declared.allocator.SectorAllocator.{Ghosts as Allocating}
@@ -15,6 +15,7 @@ use Rattle.chains.specs.Reading.{Found, fault, read, reading}
 use Rattle.chains.specs.Sound.{entries}
 use Rattle.chains.specs.Survey.{Tells}
 use Rattle.rules.specs.Model.{Check}
+use Rattle.drive.specs.Answers.{done_answer}
 use Rattle.drive.specs.Checks.{plain_fault, first_fault, format_checks, initialize_checks}
 use Rattle.drive.specs.Units.{any_open}
 use Rattle.drive.specs.declared.answer.Answer.{Answer}
@@ -27,13 +28,6 @@ abbrev pub own_checks : {D S : Type 0} → Reading D → Drive D S → List ℕ 
 own_checks r d id =
     let m = r.medium d.device in
     format_checks (any_open d.state.units) m.door m.tab (length m.sectors) id
-
-abbrev pub done_answer : Answer
-done_answer = record { code = Done; length = 0; layer = None; sector = 0xFFFF }
-
--- the answer that passes a fault on
-abbrev pub from_fault : Fault → Answer
-from_fault f = record { code = f.code; length = 0; layer = f.layer; sector = f.sector }
 
 -- initialised, with no file and a map that is up to date
 abbrev pub formatted_state : State → State

@@ -18,10 +18,7 @@ impl<D: WritingDevice, A: SectorAllocator> Drive<D, A> {
     pub fn erase(&mut self, name: &[u8]) -> Answer
         ensures { ServesAlone D.ReadingDevice A.SectorAllocator (Erase name.now) self.old result [] self.new }
     {
-        match self.try_erase(name) {
-            Ok(()) => Answer::done(0),
-            Err(fault) => Answer::from_fault(fault),
-        }
+        self.try_erase(name).into()
     }
 
     fn try_erase(&mut self, name: &[u8]) -> Result<(), Fault>

@@ -17,10 +17,7 @@ impl<D: WritingDevice, A: SectorAllocator> Drive<D, A> {
     pub fn format(&mut self, id: &[u8]) -> Answer
         ensures { ServesAlone D.ReadingDevice A.SectorAllocator (Format id.now) self.old result [] self.new }
     {
-        match self.try_format(id) {
-            Ok(()) => Answer::done(0),
-            Err(fault) => Answer::from_fault(fault),
-        }
+        self.try_format(id).into()
     }
 
     fn try_format(&mut self, id: &[u8]) -> Result<(), Fault>

@@ -22,10 +22,7 @@ impl<D: WritingDevice, A: SectorAllocator> Drive<D, A> {
     pub fn initialize(&mut self) -> Answer
         ensures { ServesAlone D.ReadingDevice A.SectorAllocator Initialize self.old result [] self.new }
     {
-        match self.try_initialize() {
-            Ok(()) => Answer::done(0),
-            Err(fault) => Answer::from_fault(fault),
-        }
+        self.try_initialize().into()
     }
 
     fn try_initialize(&mut self) -> Result<(), Fault>

@@ -24,7 +24,7 @@ impl<D: WritingDevice, A: SectorAllocator> Drive<D, A> {
                     used: 0,
                     files: 0,
                 };
-                (Answer::from_fault(fault), none)
+                (fault.into(), none)
             }
         }
     }
