@@ -1,5 +1,8 @@
 // The drive's own state: its marks, the number of its files, and its sixteen units.
 ghost use Rattle.std.specs.Prelude.{◌≡◌, ◌<◌, false, map, length, replicate, slice_index_or, slice_set};
+ghost use Rattle.std.specs.Option.{ok_or};
+ghost use Rattle.device.specs.declared.fault.Code.TheVariants.{InvalidOperation};
+ghost use Rattle.device.specs.declared.fault.Layer.TheVariants as layer;
 ghost use Rattle.rules.specs.Model.{closed, has_name};
 ghost use Rattle.drive.specs.declared.units.Unit.{Unit as Slot};
 ghost use Rattle.drive.specs.Checks.{plain_fault};
@@ -18,17 +21,19 @@ pub enum Kind {
     Append,
 }
 
-impl Kind {
-    // The kind of this number, if there is one.
-    pub(crate) fn from_number(n: u16) -> Option<Kind>
-        ensures { result ≡ kind_from n }
-    {
+// The kind of this number; any other is an invalid operation.
+impl TryFrom<u16> for Kind {
+    type Error = Fault;
+
+    ghost try_from_gives = { λ n kind. kind ≡ ok_or (kind_from n) (plain_fault InvalidOperation layer.Request) };
+
+    fn try_from(n: u16) -> Result<Kind, Fault> {
         match n {
-            0 => Some(Kind::Input),
-            1 => Some(Kind::New),
-            2 => Some(Kind::Output),
-            3 => Some(Kind::Append),
-            _ => None,
+            0 => Ok(Kind::Input),
+            1 => Ok(Kind::New),
+            2 => Ok(Kind::Output),
+            3 => Ok(Kind::Append),
+            _ => Err(request_fault(Code::InvalidOperation)),
         }
     }
 }
