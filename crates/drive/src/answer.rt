@@ -7,7 +7,7 @@ ghost use Rattle.drive.specs.Answers.{answer_of, from_fault};
 use device::{Code, Fault, Layer};
 
 // A completion code, how far the work went, and where a fault arose.
-#[derive(Clone, Copy)]
+#[derive(Clone, Copy, Debug, PartialEq, Eq)]
 pub struct Answer {
     pub code: Code,
     pub length: u16,

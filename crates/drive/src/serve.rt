@@ -4,22 +4,22 @@ ghost use Rattle.drive.specs.Exchanges.{Replies, ServesExchange, ServesAll, Runs
 
 use crate::answer::Answer;
 use crate::drive::Drive;
-use crate::request::{Exchange, Reported, Request};
+use crate::request::{Exchange, Request, Usage};
 use device::WritingDevice;
 use freespace::SectorAllocator;
 
 impl<D: WritingDevice, A: SectorAllocator> Drive<D, A> {
     // The call that a request asks for.
-    fn reply(&mut self, request: &Request) -> (Answer, Reported)
+    fn reply(&mut self, request: &Request) -> (Answer, Option<Usage>)
         ensures { Replies D.ReadingDevice A.SectorAllocator request.now self.old result.0 result.1 self.new }
     {
         match request {
-            Request::Format { id } => (self.format(id.as_slice()), Reported::Nothing),
-            Request::Door { open } => (self.door(*open), Reported::Nothing),
-            Request::Tab { on } => (self.tab(*on), Reported::Nothing),
+            Request::Format { id } => (self.format(id.as_slice()), None),
+            Request::Door { open } => (self.door(*open), None),
+            Request::Tab { on } => (self.tab(*on), None),
             Request::Status => {
                 let (answer, usage) = self.status();
-                (answer, Reported::Usage(usage))
+                (answer, Some(usage))
             }
         }
     }

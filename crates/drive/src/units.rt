@@ -13,7 +13,7 @@ use chains::Name;
 use device::{Code, Fault};
 
 // The ways to open a file.
-#[derive(Clone, Copy)]
+#[derive(Clone, Copy, Debug, PartialEq, Eq)]
 pub enum Kind {
     Input,
     New,
@@ -39,7 +39,7 @@ impl TryFrom<u16> for Kind {
 }
 
 // A unit is closed, or is on record `cursor` of a file, whose sector is `current`; at 0 it is on the descriptor.
-#[derive(Clone, Copy)]
+#[derive(Clone, Copy, Debug, PartialEq, Eq)]
 pub enum UnitState {
     Closed,
     Open {
@@ -51,7 +51,7 @@ pub enum UnitState {
 }
 
 // What a call asks of the unit that it names.
-#[derive(Clone, Copy)]
+#[derive(Clone, Copy, Debug, PartialEq, Eq)]
 pub enum UnitRequest {
     Open {
         kind: Kind,
