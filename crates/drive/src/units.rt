@@ -38,27 +38,25 @@ impl TryFrom<u16> for Kind {
     }
 }
 
-// A unit is closed, or is on record `cursor` of a file, whose sector is `current`; at 0 it is on the descriptor.
+// A file as a unit has it open: on record `cursor`, whose sector is `current`; at 0 it is on the descriptor.
+#[derive(Clone, Copy, Debug, PartialEq, Eq)]
+pub struct OpenFile {
+    pub(crate) kind: Kind,
+    pub(crate) cursor: u16,
+    pub(crate) descriptor: u16,
+    pub(crate) current: u16,
+}
+
 #[derive(Clone, Copy, Debug, PartialEq, Eq)]
 pub enum UnitState {
     Closed,
-    Open {
-        kind: Kind,
-        cursor: u16,
-        descriptor: u16,
-        current: u16,
-    },
+    Open(OpenFile),
 }
 
 // What a call asks of the unit that it names.
 #[derive(Clone, Copy, Debug, PartialEq, Eq)]
 pub enum UnitRequest {
-    Open {
-        kind: Kind,
-        cursor: u16,
-        descriptor: u16,
-        current: u16,
-    },
+    Open(OpenFile),
     Close,
     Rewind,
 }
@@ -74,7 +72,7 @@ impl Unit {
     pub(crate) fn is_open(&self) -> bool
         ensures { result ≡ is_open (unit_of self.now) }
     {
-        matches!(self.state, UnitState::Open { .. })
+        matches!(self.state, UnitState::Open(_))
     }
 
     // The state that a request leads to from the one that the unit is in: a closed unit can only be opened, an open one not again.
@@ -82,39 +80,17 @@ impl Unit {
         ensures { result ≡ stepped self.now.state request }
     {
         match (self.state, request) {
-            (
-                UnitState::Closed,
-                UnitRequest::Open {
-                    kind,
-                    cursor,
-                    descriptor,
-                    current,
-                },
-            ) => Ok(UnitState::Open {
-                kind,
-                cursor,
-                descriptor,
-                current,
-            }),
-            (UnitState::Closed, UnitRequest::Close) => Err(request_fault(Code::FileNotOpen)),
-            (UnitState::Closed, UnitRequest::Rewind) => Err(request_fault(Code::FileNotOpen)),
-            (UnitState::Open { .. }, UnitRequest::Open { .. }) => {
-                Err(request_fault(Code::UnitInUse))
+            (UnitState::Closed, UnitRequest::Open(file)) => Ok(UnitState::Open(file)),
+            (UnitState::Closed, UnitRequest::Close | UnitRequest::Rewind) => {
+                Err(request_fault(Code::FileNotOpen))
             }
-            (UnitState::Open { .. }, UnitRequest::Close) => Ok(UnitState::Closed),
-            (
-                UnitState::Open {
-                    kind,
-                    descriptor,
-                    ..
-                },
-                UnitRequest::Rewind,
-            ) => Ok(UnitState::Open {
-                kind,
+            (UnitState::Open(_), UnitRequest::Open(_)) => Err(request_fault(Code::UnitInUse)),
+            (UnitState::Open(_), UnitRequest::Close) => Ok(UnitState::Closed),
+            (UnitState::Open(file), UnitRequest::Rewind) => Ok(UnitState::Open(OpenFile {
                 cursor: 0,
-                descriptor,
-                current: descriptor,
-            }),
+                current: file.descriptor,
+                ..file
+            })),
         }
     }
 
@@ -123,7 +99,7 @@ impl Unit {
     {
         match self.state {
             UnitState::Closed => false,
-            UnitState::Open { .. } => self.name.is(name),
+            UnitState::Open(_) => self.name.is(name),
         }
     }
 }
