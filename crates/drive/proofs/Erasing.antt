@@ -29,9 +29,11 @@ use Rattle.rules.proofs.Lookups.{listed_at, located_present}
 use Rattle.rules.proofs.Rearranging.{differ, held_found}
 use Rattle.drive.specs.declared.answer.Answer.{Answer}
 use Rattle.drive.specs.declared.drive.Drive.{Drive}
+use Rattle.drive.specs.declared.units.KnownDisk.{KnownDisk}
 use Rattle.drive.specs.Checks.{plain_fault, first_fault}
 use Rattle.drive.specs.Erasing.{Erased, Finds, GivesBack, Knows, LeavesErased, Removes, TriesErasing, Unlists, after_look_up, before_look_up, erasable, found_or_fault, less_one, own_erasable, place_emptied}
 use Rattle.drive.specs.Answers.{answer_of, done_answer, from_fault}
+use Rattle.drive.specs.Known.{file_count, map_changed, without_file}
 use Rattle.drive.specs.Serves.{Represents, Serving, ServesAlone, view, told_by}
 use Rattle.drive.specs.Units.{any_named, unit_of}
 use Rattle.drive.proofs.Formatting.{passed}
@@ -128,7 +130,7 @@ first_passed i door n e =
 
 -- a look-up on the disk of d, and the refusals after it
 module _ {D S : Type 0} (r : Reading D) (n : List ℕ) (d : Drive D S) (device : D) (same : r.medium device ≡ r.medium d.device)
-    (first : Ok tt ≡ first_fault (before_look_up d.state.initialized (r.medium d.device).door n)) (lookup : Result Lookup Fault)
+    (first : Ok tt ≡ first_fault (before_look_up (is_some d.state.disk) (r.medium d.device).door n)) (lookup : Result Lookup Fault)
     (looks : (l : Layout) → LaidOut l (r.medium d.device).sectors → (r.medium d.device).door ≡ false → lookup ≡ Ok (lookup_of n l.places)) where
   abbrev looked : Drive D S
   looked = record { device = device; allocator = d.allocator; state = d.state }
@@ -145,7 +147,7 @@ module _ {D S : Type 0} (r : Reading D) (n : List ℕ) (d : Drive D S) (device :
       record {
         same = record { medium = same; allocator = refl; state = refl };
         found = λ l laid.
-            let on = first_passed d.state.initialized (r.medium d.device).door n first in
+            let on = first_passed (is_some d.state.disk) (r.medium d.device).door n first in
             is
             ∙ (ap after_found (looks l (laid on.0) on.1)
             ∙ (ap (λ (m : Medium). next (found_or_fault (located n 0 l.places)) (last_refusal m.tab)) same
@@ -211,7 +213,7 @@ module _ {D S : Type 0} (r : Reading D) (a : Allocating S) (n : List ℕ) (d k :
       let m = r.medium d.device in
       let same = finds.same in
       let answer = finds.found l (λ on. (knows on).laid) in
-      let may = may_erase d.state.initialized m.door n (located n 0 l.places) (any_named n d.state.units) m.tab x answer in
+      let may = may_erase (is_some d.state.disk) m.door n (located n 0 l.places) (any_named n d.state.units) m.tab x answer in
       let known = knows may.initialized in
       let does =
       removes n l
@@ -261,6 +263,17 @@ only_if_on : (on door is_legal here here' held tab : Bool) → (on ≡ true → 
 only_if_on true door is_legal here here' held tab e = ap (λ h. first_fault (erase_checks true door is_legal h held tab)) (e refl)
 only_if_on false door is_legal here here' held tab e = refl
 
+-- ---- what the drive knows once the file is gone
+
+record LosesOne (o : Option KnownDisk) : Type 0 where
+  known : is_some (without_file o) ≡ is_some o
+  saved : map_changed (without_file o) ≡ false
+  fewer : file_count (without_file o) ≡ file_count o - 1
+
+loses_one : (o : Option KnownDisk) → LosesOne o
+loses_one None = record { known = refl; saved = refl; fewer = refl }
+loses_one (Some k) = record { known = refl; saved = refl; fewer = refl }
+
 -- ---- the promise
 
 module _ {D S : Type 0} (r : Reading D) (a : Allocating S) (n : List ℕ) (d e : Drive D S) (buf : List ℕ) (b : Model) (rep : Represents r a b d) where
@@ -277,7 +290,7 @@ module _ {D S : Type 0} (r : Reading D) (a : Allocating S) (n : List ℕ) (d e :
   model_checks = erase_checks b.initialized b.door (legal n) (present b n) (any (has_name n) b.units) b.tab
 
   -- the layout of the drive's disk, by the model
-  known : (l : Layout) → (b.initialized ≡ true → Laid b l (r.medium d.device).sectors × Spares l (a.member d.allocator)) → d.state.initialized ≡ true → Knows r a d l
+  known : (l : Layout) → (b.initialized ≡ true → Laid b l (r.medium d.device).sectors × Spares l (a.member d.allocator)) → is_some d.state.disk ≡ true → Knows r a d l
   known l laid on =
       let is_on = sym rep.tallies.initialized ∙ on in
       let own = laid is_on in
@@ -292,7 +305,7 @@ module _ {D S : Type 0} (r : Reading D) (a : Allocating S) (n : List ℕ) (d e :
       let m = r.medium d.device in
       let v = rep.tallies in
       let found = located n 0 l.places in
-      checks_in_order d.state.initialized m.door (legal n) found (any_named n d.state.units) m.tab
+      checks_in_order (is_some d.state.disk) m.door (legal n) found (any_named n d.state.units) m.tab
       ∙ ((λ i. first_fault (erase_checks (v.initialized i) (v.door i) (legal n) (is_some found) (any (has_name n) (v.units i)) (v.tab i)))
       ∙ only_if_on b.initialized b.door (legal n) (is_some found) (present b n) (any (has_name n) b.units) b.tab (λ on. located_present b l n (laid on).0.follows.matches))
 
@@ -335,6 +348,7 @@ module _ {D S : Type 0} (r : Reading D) (a : Allocating S) (n : List ℕ) (d e :
   erase_done ans does is =
       let v = rep.tallies in
       let ok = answered_as (Ok tt) does in
+      let lost = loses_one d.state.disk in
       let done_is : o ≡ gone = outcome_is (Ok tt) ok in
       let there = accepted_then ok in
       let own = v.laid there.0 in
@@ -345,8 +359,8 @@ module _ {D S : Type 0} (r : Reading D) (a : Allocating S) (n : List ℕ) (d e :
         door = after.door ∙ (v.door ∙ sym (ap (λ x. x.after.door) done_is));
         tab = after.tab ∙ (v.tab ∙ sym (ap (λ x. x.after.tab) done_is));
         units = ap (λ s. map unit_of s.units) after.state ∙ (v.units ∙ sym (ap (λ x. x.after.units) done_is));
-        initialized = ap (λ s. s.initialized) after.state ∙ (v.initialized ∙ sym (ap (λ x. x.after.initialized) done_is));
-        map_changed = ap (λ s. s.changed) after.state ∙ sym (ap (λ x. x.after.changed) done_is);
+        initialized = ap (λ s. is_some s.disk) after.state ∙ (lost.known ∙ (v.initialized ∙ sym (ap (λ x. x.after.initialized) done_is)));
+        map_changed = ap (λ s. map_changed s.disk) after.state ∙ (lost.saved ∙ sym (ap (λ x. x.after.changed) done_is));
         untouched = λ refused. absurd (false≢true (sym (ap (λ x. x.refused) done_is) ∙ refused));
         still_free = λ refused _. absurd (false≢true (sym (ap (λ x. x.refused) done_is) ∙ refused));
         changed = λ _ l laid _.
@@ -359,7 +373,7 @@ module _ {D S : Type 0} (r : Reading D) (a : Allocating S) (n : List ℕ) (d e :
               spares = λ _. left.spares;
             };
       })
-      (ap (λ s. s.files) after.state ∙ (ap (λ k. k - 1) rep.files ∙ (files_left own.0 own.1.follows.matches there.1 ∙ sym (ap (λ x. length x.after.files) done_is))))
+      (ap (λ s. file_count s.disk) after.state ∙ (lost.fewer ∙ (ap (λ k. k - 1) rep.files ∙ (files_left own.0 own.1.follows.matches there.1 ∙ sym (ap (λ x. length x.after.files) done_is)))))
       (λ _. after.span ∙ (rep.span there.0 ∙ sym (ap (λ x. x.after.size) done_is)))
 
 pub erase_promise : {D S : Type 0} (r : Reading D) (a : Allocating S) (n : List ℕ) (d e : Drive D S) (y : Result Unit Fault) (ans : Answer) → TriesErasing r a n d y e → ans ≡ answer_of y → ServesAlone r a (Erase n) d ans [] e

@@ -1,5 +1,5 @@
 -- The promise of FORMAT, from what its code does.
-use Rattle.std.proofs.Common.{◌≡◌, ℕ, Bool, true, false, cond, not, ◌&&◌, ltb, leb, List, [], map, length, Ok, Err, Result, sym, refl, ap, ◌∙◌, arith}
+use Rattle.std.proofs.Common.{◌≡◌, ℕ, Bool, true, false, cond, not, ◌&&◌, ltb, leb, List, [], map, length, is_some, Ok, Err, Result, sym, refl, ap, ◌∙◌, arith}
 use Rattle.std.proofs.lemmas.Bool.{and_parts, false≢true, not-false}
 use Rattle.device.specs.Device.{Medium}
 use Rattle.device.specs.declared.fault.Fault.{Fault}
@@ -15,6 +15,7 @@ use Rattle.drive.specs.declared.answer.Answer.{Answer}
 use Rattle.drive.specs.declared.drive.Drive.{Drive}
 use Rattle.drive.specs.Checks.{first_fault, format_checks}
 use Rattle.drive.specs.Answers.{answer_of, done_answer, from_fault}
+use Rattle.drive.specs.Known.{file_count, map_changed}
 use Rattle.drive.specs.Parts.{Formats, formatted_state, own_checks}
 use Rattle.drive.specs.Serves.{Represents, ServesAlone, view, told_by}
 use Rattle.drive.specs.Units.{any_open, is_open, unit_of}
@@ -108,13 +109,13 @@ module _ {D S : Type 0} (r : Reading D) (a : Allocating S) (d : Drive D S) (id :
         door = ap (λ x. x.door) medium ∙ (v.door ∙ sym (ap (λ x. x.after.door) o));
         tab = ap (λ x. x.tab) medium ∙ (v.tab ∙ sym (ap (λ x. x.after.tab) o));
         units = ap (λ s. map unit_of s.units) state ∙ (v.units ∙ sym (ap (λ x. x.after.units) o));
-        initialized = ap (λ s. s.initialized) state ∙ sym (ap (λ x. x.after.initialized) o);
-        map_changed = ap (λ s. s.changed) state ∙ sym (ap (λ x. x.after.changed) o);
+        initialized = ap (λ s. is_some s.disk) state ∙ sym (ap (λ x. x.after.initialized) o);
+        map_changed = ap (λ s. map_changed s.disk) state ∙ sym (ap (λ x. x.after.changed) o);
         untouched = λ refused. absurd (false≢true (sym (ap (λ x. x.refused) o) ∙ refused));
         still_free = λ refused _. absurd (false≢true (sym (ap (λ x. x.refused) o) ∙ refused));
         changed = λ _ l _ _. record { taken = []; count = sym (ap (λ x. x.added) o); given = record { were_free = tt; distinct = tt }; written = over; spares = λ _. spare };
       })
-      (ap (λ s. s.files) state ∙ sym (ap (λ x. length x.after.files) o))
+      (ap (λ s. file_count s.disk) state ∙ sym (ap (λ x. length x.after.files) o))
       (λ _. does.span ∙ (v.size ∙ sym (ap (λ x. x.after.size) o)))
 
   pub format_promise : (e : Drive D S) (x : Result Unit Fault) (ans : Answer) → Formats r a id d x e → ans ≡ answer_of x → ServesAlone r a (Format id) d ans [] e

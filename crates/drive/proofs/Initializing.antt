@@ -1,5 +1,5 @@
 -- The promise of INITIALIZE, from what its code does.
-use Rattle.std.proofs.Common.{◌≡◌, ℕ, suc, Bool, true, false, cond, not, ◌&&◌, ltb, leb, List, [], ◌∷◌, map, length, Some, None, Ok, Err, Option, Result, sym, refl, ap, ◌∙◌, subst, arith}
+use Rattle.std.proofs.Common.{◌≡◌, ℕ, suc, Bool, true, false, cond, not, ◌&&◌, ltb, leb, List, [], ◌∷◌, map, length, is_some, Some, None, Ok, Err, Option, Result, sym, refl, ap, ◌∙◌, subst, arith}
 use Rattle.std.specs.List.{AllByRecursion}
 use Rattle.std.proofs.lemmas.Bool.{false≢true}
 use Rattle.device.specs.Codes.{layer_number}
@@ -22,9 +22,12 @@ use Rattle.rules.proofs.OnlySound.{only}
 use Rattle.rules.proofs.Rearranging.{as_long}
 use Rattle.drive.specs.declared.answer.Answer.{Answer}
 use Rattle.drive.specs.declared.drive.Drive.{Drive}
+use Rattle.drive.specs.declared.units.KnownDisk.{KnownDisk}
+use Rattle.drive.specs.declared.units.State.{State}
 use Rattle.drive.specs.Answers.{answer_of, done_answer, from_fault}
 use Rattle.drive.specs.Checks.{first_fault, initialize_checks}
-use Rattle.drive.specs.Parts.{Initializes, ReadsIn, TakesOver, TurnsAway, forgotten, own_initialize_checks, started_state, unread_state}
+use Rattle.drive.specs.Known.{file_count, map_changed}
+use Rattle.drive.specs.Parts.{Initializes, ReadsIn, TakesOver, TurnsAway, forgotten, own_initialize_checks, started_state}
 use Rattle.drive.specs.Serves.{Represents, Serving, ServesAlone, view, told_by}
 use Rattle.drive.specs.Units.{any_open, is_open, unit_of}
 use Rattle.drive.proofs.Examining.{readable}
@@ -40,6 +43,14 @@ as_many : (es : List (Option Entry)) → length (files_in es) ≡ length (entrie
 as_many [] = refl
 as_many (None ∷ es) = as_many es
 as_many (Some f ∷ es) = ap suc (as_many es)
+
+-- a drive that knew nothing of its disk forgets nothing
+unknown_forgotten : (s : State) → is_some s.disk ≡ false → forgotten s ≡ s
+unknown_forgotten s off = ap (λ o. record s { disk = o }) (nothing s.disk off)
+  where
+    nothing : (o : Option KnownDisk) → is_some o ≡ false → None ≡ o
+    nothing None e = refl
+    nothing (Some k) e = absurd (false≢true (sym e))
 
 -- what was refused before the disk was read
 pub initializes_refused : {D S : Type 0} (r : Reading D) (a : Allocating S) (d : Drive D S) (f : Fault) → AllByRecursion WellFormed (r.medium d.device).sectors → Err f ≡ first_fault (own_initialize_checks r d) → Initializes r a d (Err f) d
@@ -130,8 +141,8 @@ module _ {D S : Type 0} (r : Reading D) (a : Allocating S) (d e : Drive D S) (bu
         door = ap (λ x. x.door) medium ∙ (v.door ∙ sym (ap (λ x. x.after.door) done_is ∙ door));
         tab = ap (λ x. x.tab) medium ∙ (v.tab ∙ sym (ap (λ x. x.after.tab) done_is ∙ tab));
         units = ap (λ s. map unit_of s.units) takes.state ∙ (v.units ∙ sym (ap (λ x. x.after.units) done_is ∙ units));
-        initialized = ap (λ s. s.initialized) takes.state ∙ sym (ap (λ x. x.after.initialized) done_is ∙ on);
-        map_changed = ap (λ s. s.changed) takes.state ∙ sym (ap (λ x. x.after.changed) done_is ∙ clean);
+        initialized = ap (λ s. is_some s.disk) takes.state ∙ sym (ap (λ x. x.after.initialized) done_is ∙ on);
+        map_changed = ap (λ s. map_changed s.disk) takes.state ∙ sym (ap (λ x. x.after.changed) done_is ∙ clean);
         untouched = λ _. ap (λ x. x.sectors) medium;
         still_free = λ refused _. absurd (false≢true (sym (ap (λ x. x.refused) done_is) ∙ refused));
         changed = λ _ k laid found.
@@ -147,7 +158,7 @@ module _ {D S : Type 0} (r : Reading D) (a : Allocating S) (d e : Drive D S) (bu
                   ∙ ap (λ (x : Layout). leb reserved n && (ltb n k.size && not (member n (numbers (chains x.places))))) (sym k_is.0));
             };
       })
-      (ap (λ s. s.files) takes.state ∙ (many ∙ sym (ap (λ x. length x.after.files) done_is)))
+      (ap (λ s. file_count s.disk) takes.state ∙ (many ∙ sym (ap (λ x. length x.after.files) done_is)))
       (λ _. takes.span ∙ (v.size ∙ sym (ap (λ x. x.after.size) done_is ∙ size)))
 
   -- a fault in reading: nothing is known of the disk, and nothing was before
@@ -155,7 +166,7 @@ module _ {D S : Type 0} (r : Reading D) (a : Allocating S) (d e : Drive D S) (bu
       b.initialized ≡ false → o ≡ read_in b (faulty c n) buf → Serving r a b call d (told_by ans [] buf) e
   turned_away f c n ans reads is medium away off fault_is =
       let v = rep.tallies in
-      let same : e.state ≡ d.state = away.state ∙ ap (λ i. cond i (unread_state d.state) d.state) (v.initialized ∙ off) in
+      let same : e.state ≡ d.state = away.state ∙ unknown_forgotten d.state (v.initialized ∙ off) in
       let shown : told_by ans [] buf ≡ told (read_in b (faulty c n) buf) = ap (λ x. told_by x [] buf) is ∙ (λ i. record {
         code = away.code i;
         len = 0;

@@ -1,5 +1,5 @@
 -- From what one call did to the drive's parts to the call's promise.
-use Rattle.std.proofs.Common.{◌≡◌, ℕ, Bool, true, false, [], length, None, unwrap_or, sym, ap, ◌∙◌, subst}
+use Rattle.std.proofs.Common.{◌≡◌, ℕ, Bool, true, false, [], length, is_some, None, unwrap_or, sym, ap, ◌∙◌, subst}
 use Rattle.std.proofs.lemmas.Bool.{false≢true}
 use Rattle.device.specs.declared.reading.ReadingDevice.{Ghosts as Reading}
 use Rattle.freespace.specs.declared.allocator.SectorAllocator.{Ghosts as Allocating}
@@ -12,6 +12,7 @@ use Rattle.rules.specs.Served.{Effect, ReadsOnlySound, Served, outcome}
 use Rattle.rules.proofs.Refused.{refusal_keeps}
 use Rattle.rules.proofs.Serving.{serving_steps}
 use Rattle.drive.specs.declared.drive.Drive.{Drive}
+use Rattle.drive.specs.Known.{file_count, map_changed}
 use Rattle.drive.specs.Serves.{Represents, Serving, view}
 
 pub both : (x : Bool) → x ≡ true → x ≡ false → ⊥
@@ -39,7 +40,7 @@ module _ {D S : Type 0} (r : Reading D) (a : Allocating S) (b : Model) (q : Call
   abbrev o : Outcome
   o = outcome b (view r a d) q
 
-  pub served : Served b (view r a d) q (view r a e) → e.state.files ≡ length o.after.files → (o.after.initialized ≡ true → a.span e.allocator ≡ o.after.size) → Serving r a b q d t e
+  pub served : Served b (view r a d) q (view r a e) → file_count e.state.disk ≡ length o.after.files → (o.after.initialized ≡ true → a.span e.allocator ≡ o.after.size) → Serving r a b q d t e
   served s files span =
       let n = serving_steps b (view r a d) q (view r a e) before rep.tallies s in
       record { answered = answered; step = n.step; represents = record { tallies = n.tallies; files = files; span = span } }
@@ -54,11 +55,11 @@ module _ {D S : Type 0} (r : Reading D) (a : Allocating S) (b : Model) (q : Call
         door = ap (λ m. m.door) medium ∙ (v.door ∙ sym (ap (λ x. x.door) keeps));
         tab = ap (λ m. m.tab) medium ∙ (v.tab ∙ sym (ap (λ x. x.tab) keeps));
         units = ap (λ s. (view r a (record { device = d.device; allocator = d.allocator; state = s })).units) state ∙ (v.units ∙ sym (ap (λ x. x.units) keeps));
-        initialized = ap (λ s. s.initialized) state ∙ (v.initialized ∙ sym (ap (λ x. x.initialized) keeps));
-        map_changed = ap (λ s. s.changed) state ∙ (v.map_changed ∙ sym (ap (λ x. x.changed) keeps));
+        initialized = ap (λ s. is_some s.disk) state ∙ (v.initialized ∙ sym (ap (λ x. x.initialized) keeps));
+        map_changed = ap (λ s. map_changed s.disk) state ∙ (v.map_changed ∙ sym (ap (λ x. x.changed) keeps));
         untouched = λ _. ap (λ m. m.sectors) medium;
         still_free = λ _ _. free;
         changed = λ accepted. absurd (both o.refused refused accepted);
       })
-      (ap (λ s. s.files) state ∙ (rep.files ∙ sym (ap (λ x. length x.files) keeps)))
+      (ap (λ s. file_count s.disk) state ∙ (rep.files ∙ sym (ap (λ x. length x.files) keeps)))
       (λ i. span ∙ (rep.span (sym (ap (λ x. x.initialized) keeps) ∙ i) ∙ sym (ap (λ x. x.size) keeps)))

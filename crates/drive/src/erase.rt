@@ -1,5 +1,5 @@
 // ERASE.
-ghost use Rattle.std.specs.Prelude.{◌≡◌, [], length};
+ghost use Rattle.std.specs.Prelude.{◌≡◌, [], is_some};
 ghost use Rattle.rules.specs.Model.{Erase};
 ghost use Rattle.drive.specs.Checks.{first_fault};
 ghost use Rattle.drive.specs.Erasing.{Finds, GivesBack, Removes, TriesErasing, Unlists, after_look_up, before_look_up};
@@ -45,9 +45,9 @@ impl<D: WritingDevice, A: SectorAllocator> Drive<D, A> {
 
     // The refusals that need no look at the directory.
     fn check_erase(&self, name: &[u8]) -> Result<(), Fault>
-        ensures { result ≡ first_fault (before_look_up self.now.state.initialized (D.ReadingDevice.medium self.now.device).door name.now) }
+        ensures { result ≡ first_fault (before_look_up (is_some self.now.state.disk) (D.ReadingDevice.medium self.now.device).door name.now) }
     {
-        if !self.state.initialized {
+        if self.state.disk.is_none() {
             return Err(request_fault(Code::NotInitialized));
         }
         self.check_door()?;

@@ -1,4 +1,4 @@
-// The drive's own state: its marks, the number of its files, and its sixteen units.
+// The drive's own state: what it knows of its disk, and its sixteen units.
 ghost use Rattle.std.specs.Prelude.{◌≡◌, ◌<◌, false, map, length, replicate, slice_index_or, slice_set};
 ghost use Rattle.std.specs.Option.{ok_or};
 ghost use Rattle.device.specs.declared.fault.Code.TheVariants.{InvalidOperation};
@@ -104,12 +104,18 @@ impl Unit {
     }
 }
 
-#[derive(Clone, Copy)]
-pub struct State {
-    pub(crate) initialized: bool,
+// What is known of a disk that was formatted or read.
+#[derive(Clone, Copy, Debug, PartialEq, Eq)]
+pub struct KnownDisk {
     // The map on the disk lags behind: a file or record was added or removed since it was written.
     pub(crate) changed: bool,
     pub(crate) files: u16,
+}
+
+#[derive(Clone, Copy)]
+pub struct State {
+    // A drive that knows its disk is initialised.
+    pub(crate) disk: Option<KnownDisk>,
     pub(crate) units: [Unit; 16],
     ghost sixteen: { length units ≡ 16 },
 }
@@ -118,11 +124,9 @@ impl State {
     ghost use Rattle.drive.specs.Erasing.{less_one};
     ghost use Rattle.drive.specs.Parts.{forgotten, started_state};
 
-    // Not initialised, no file, and every unit closed.
+    // Not initialised, and every unit closed.
     pub(crate) fn new() -> State
-        ensures initialized { result.initialized ≡ false }
-        ensures changed { result.changed ≡ false }
-        ensures files { result.files ≡ 0 }
+        ensures disk { result.disk ≡ None }
         ensures units { map unit_of result.units ≡ replicate 16 closed }
     {
         let unit = Unit {
@@ -130,9 +134,7 @@ impl State {
             name: Name::empty(),
         };
         State {
-            initialized: false,
-            changed: false,
-            files: 0,
+            disk: None,
             units: [unit; 16],
         }
     }
@@ -141,28 +143,27 @@ impl State {
     pub(crate) fn start(&mut self, files: u16)
         ensures { self.new ≡ started_state files self.old }
     {
-        self.initialized = true;
-        self.changed = false;
-        self.files = files;
+        self.disk = Some(KnownDisk {
+            changed: false,
+            files,
+        });
     }
 
-    // Nothing is known of the disk any more: if it was initialised, it is not, and has no file.
+    // Nothing is known of the disk any more.
     pub(crate) fn forget(&mut self)
         ensures { self.new ≡ forgotten self.old }
     {
-        if self.initialized {
-            self.initialized = false;
-            self.changed = false;
-            self.files = 0;
-        }
+        self.disk = None;
     }
 
     // A file was erased, and the map was saved with it.
     pub(crate) fn lose_file(&mut self)
         ensures { self.new ≡ less_one self.old }
     {
-        self.changed = false;
-        self.files = self.files.saturating_sub(1);
+        if let Some(disk) = &mut self.disk {
+            disk.changed = false;
+            disk.files = disk.files.saturating_sub(1);
+        }
     }
 
     pub(crate) fn some_open(&self) -> bool
@@ -189,9 +190,7 @@ impl State {
     // Moves unit u to another state; one that is opened takes the name.
     pub(crate) fn put_unit(&mut self, u: u16, state: UnitState, name: Name)
         requires below { u < 16 }
-        ensures initialized { self.new.initialized ≡ self.old.initialized }
-        ensures changed { self.new.changed ≡ self.old.changed }
-        ensures files { self.new.files ≡ self.old.files }
+        ensures disk { self.new.disk ≡ self.old.disk }
         ensures units { self.new.units ≡ slice_set self.old.units u (record { state = state; name = name }) }
     {
         self.units[u as usize] = Unit { state, name };

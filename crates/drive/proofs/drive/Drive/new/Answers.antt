@@ -8,5 +8,5 @@ returns g c =
     record {
       device = refl;
       allocator = refl;
-      fresh = fresh_drive g.D.ReadingDevice g.A.SectorAllocator _ made.initialized made.changed made.files made.units;
+      fresh = fresh_drive g.D.ReadingDevice g.A.SectorAllocator _ made.disk made.units;
     }
