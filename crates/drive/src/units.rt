@@ -1,10 +1,9 @@
 // The drive's own state: what it knows of its disk, and its sixteen units.
-ghost use Rattle.std.specs.Prelude.{◌≡◌, ◌<◌, false, map, length, replicate, slice_index_or, slice_set};
+ghost use Rattle.std.specs.Prelude.{◌≡◌, ◌<◌, false, map, length, replicate, slice_get, slice_set};
 ghost use Rattle.std.specs.Option.{ok_or};
 ghost use Rattle.device.specs.declared.fault.Code.TheVariants.{InvalidOperation};
 ghost use Rattle.device.specs.declared.fault.Layer.TheVariants as layer;
 ghost use Rattle.rules.specs.Model.{closed, has_name};
-ghost use Rattle.drive.specs.declared.units.Unit.{Unit as Slot};
 ghost use Rattle.drive.specs.Checks.{plain_fault};
 ghost use Rattle.drive.specs.Units.{unit_of, is_open, any_open, any_named, kind_from, stepped};
 
@@ -182,7 +181,7 @@ impl State {
     // Unit u as it stands.
     pub(crate) fn unit(&self, u: u16) -> Unit
         requires below { u < 16 }
-        ensures { (other : Slot) → slice_index_or self.now.units u other ≡ result }
+        ensures { slice_get self.now.units u ≡ Some result }
     {
         self.units[u as usize]
     }
