@@ -1,5 +1,5 @@
 -- The promises of a new drive, of DOOR, TAB and STATUS, from what the code does.
-use Rattle.std.proofs.Common.{◌≡◌, ℕ, ◌-◌, Bool, true, false, cond, List, [], ◌∷◌, map, length, replicate, is_some, Some, None, Ok, Err, Option, sym, refl, ap, ◌∙◌, subst, arith}
+use Rattle.std.proofs.Common.{◌≡◌, ℕ, ◌-◌, Bool, true, false, cond, List, [], ◌∷◌, map, length, replicate, is_some, Some, None, Ok, Err, Option, sym, refl, ap, ◌∙◌, subst}
 use Rattle.std.proofs.lemmas.Bool.{false≢true}
 use Rattle.std.specs.Option.{ok_or, option_map}
 use Rattle.device.specs.declared.reading.ReadingDevice.{Ghosts as Reading}
@@ -100,18 +100,18 @@ module _ {D S : Type 0} (r : Reading D) (a : Allocating S) (d : Drive D S) where
 
   pub door_serves : (x : Bool) (ans : Answer) (e : Drive D S) → Sets r (device.with_door (r.medium d.device) x) d ans e → ServesAlone r a (Door x) d ans [] e
   door_serves x ans e does buf b rep =
-      settled (Door x) _ ans e buf b x b.tab does rep (λ i. let z : ◌≡◌ {A = ℕ} 0 1 = cc in absurd (omega arith)) refl (λ _. refl) refl refl rep.tallies.tab
+      settled (Door x) _ ans e buf b x b.tab does rep (λ i. absurd cc) refl (λ _. refl) refl refl rep.tallies.tab
 
   pub tab_serves : (x : Bool) (ans : Answer) (e : Drive D S) → Sets r (device.with_tab (r.medium d.device) x) d ans e → ServesAlone r a (Tab x) d ans [] e
   tab_serves x ans e does buf b rep =
-      settled (Tab x) _ ans e buf b b.door x does rep (λ i. let z : ◌≡◌ {A = ℕ} 0 1 = cc in absurd (omega arith)) refl (λ _. refl) refl rep.tallies.door refl
+      settled (Tab x) _ ans e buf b b.door x does rep (λ i. absurd cc) refl (λ _. refl) refl rep.tallies.door refl
 
   status_refused : (ans : Answer) → ans ≡ from_fault (plain_fault code.NotInitialized layer.Request) → is_some d.state.disk ≡ false → ServesAlone r a Status d ans (0 ∷ 0 ∷ 0 ∷ []) d
   status_refused ans e off buf b rep =
       let f : b.initialized ≡ false = sym rep.tallies.initialized ∙ off in
       let is : outcome b (view r a d) (record { request = Status; buffer = buf }) ≡ unknown b buf = ap (λ i. cond i (usage b buf) (unknown b buf)) f in
       turned_down r a b (record { request = Status; buffer = buf }) d d (told_by ans (0 ∷ 0 ∷ 0 ∷ []) buf) rep
-      (λ i. let z : ◌≡◌ {A = ℕ} 0 1 = cc in absurd (omega arith)) (ap told is ∙ ap (λ y. told_by y (0 ∷ 0 ∷ 0 ∷ []) buf) (sym e))
+      (λ i. absurd cc) (ap told is ∙ ap (λ y. told_by y (0 ∷ 0 ∷ 0 ∷ []) buf) (sym e))
       (ap (λ o. o.refused) is) refl (λ n. refl) refl refl
 
   abbrev free : ℕ
@@ -131,7 +131,7 @@ module _ {D S : Type 0} (r : Reading D) (a : Allocating S) (d : Drive D S) where
       let used_is : length (r.medium d.device).sectors - free ≡ b.size - free_count b = ap (λ n. n - free) v.size ∙ ap (λ n. b.size - n) free_is in
       let files_is : k.files ≡ length b.files = sym (ap file_count known) ∙ rep.files in
       served r a b (record { request = Status; buffer = buf }) d d (told_by ans (free ∷ (length (r.medium d.device).sectors - free) ∷ k.files ∷ []) buf) rep
-      (λ i. let z : ◌≡◌ {A = ℕ} 0 1 = cc in absurd (omega arith))
+      (λ i. absurd cc)
       (ap told is ∙ sym (told_same ans done_answer _ _ _ _ _ _ buf e free_is used_is files_is))
       (record {
         door = v.door ∙ sym (ap (λ o. o.after.door) is);
@@ -152,11 +152,13 @@ module _ {D S : Type 0} (r : Reading D) (a : Allocating S) (d : Drive D S) where
     where
       by : (o : Option KnownDisk) → d.state.disk ≡ o → Ok u ≡ ok_or (option_map (λ k. own k.files) o) (plain_fault code.NotInitialized layer.Request) → ServesAlone r a Status d ans (u.free ∷ u.used ∷ u.files ∷ []) d
       by (Some k) known h = let same : own k.files ≡ u = cc in subst (λ (w : Usage). ServesAlone r a Status d ans (w.free ∷ w.used ∷ w.files ∷ []) d) same (status_done k ans e known)
-      by None off h = let z : ◌≡◌ {A = ℕ} 0 1 = cc in absurd (omega arith)
+      by None off h = absurd cc
 
-  pub status_unknown : (f : Fault) (ans : Answer) → Err f ≡ own_usage r a d → ans ≡ from_fault f → ServesAlone r a Status d ans (0 ∷ 0 ∷ 0 ∷ []) d
-  status_unknown f ans is e = by d.state.disk refl is
+  pub status_unknown : (f : Fault) (u : Usage) (ans : Answer) → Err f ≡ own_usage r a d → (u.free ≡ 0) × ((u.used ≡ 0) × (u.files ≡ 0)) → ans ≡ from_fault f → ServesAlone r a Status d ans (u.free ∷ u.used ∷ u.files ∷ []) d
+  status_unknown f u ans is zeros e =
+      let same : u.free ∷ u.used ∷ u.files ∷ [] ≡ 0 ∷ 0 ∷ 0 ∷ [] = cc in
+      subst (λ ns. ServesAlone r a Status d ans ns d) (sym same) (by d.state.disk refl is)
     where
       by : (o : Option KnownDisk) → d.state.disk ≡ o → Err f ≡ ok_or (option_map (λ k. own k.files) o) (plain_fault code.NotInitialized layer.Request) → ServesAlone r a Status d ans (0 ∷ 0 ∷ 0 ∷ []) d
-      by (Some k) known h = let z : ◌≡◌ {A = ℕ} 0 1 = cc in absurd (omega arith)
+      by (Some k) known h = absurd cc
       by None off h = let same : f ≡ plain_fault code.NotInitialized layer.Request = cc in status_refused ans (e ∙ ap from_fault same) (ap is_some off)

@@ -44,7 +44,7 @@ pub ok_same : {A : Type 0} {x y : A} → ◌≡◌ {A = Result A Fault} (Ok x) (
 ok_same e = cc
 
 pub never : {A : Type 0} {P : Type 0} {x : A} {f : Fault} → ◌≡◌ {A = Result A Fault} (Err f) (Ok x) → P
-never e = let z : ◌≡◌ {A = ℕ} 0 1 = cc in absurd (omega arith)
+never e = absurd cc
 
 -- ---- the sectors given back
 
@@ -176,7 +176,7 @@ module _ {D S : Type 0} (r : Reading D) (n : List ℕ) (d : Drive D S) (device :
 
 next_ok : {A B : Type 0} {x : B} (y : Result A Fault) (k : A → Result B Fault) → Ok x ≡ next y k → (z : A) × (y ≡ Ok z) × (Ok x ≡ k z)
 next_ok (Ok z) k e = (z, refl, e)
-next_ok (Err f) k e = let z : ◌≡◌ {A = ℕ} 0 1 = cc in absurd (omega arith)
+next_ok (Err f) k e = absurd cc
 
 record MayErase (on open_door : Bool) (o : Option Located) (tab_on : Bool) (x : Located) : Type 0 where
   initialized : on ≡ true
@@ -328,7 +328,7 @@ module _ {D S : Type 0} (r : Reading D) (a : Allocating S) (n : List ℕ) (d e :
       let is_refusal = outcome_is (Err f) err in
       let own = some_layout b.initialized refl in
       let same = (does own.0 (known own.0 own.1)).leaves in
-      turned_down r a b call d e (told_by ans [] buf) rep (λ i. let z : ◌≡◌ {A = ℕ} 0 1 = cc in absurd (omega arith))
+      turned_down r a b call d e (told_by ans [] buf) rep (λ i. absurd cc)
       (ap told is_refusal ∙ (ap (λ k. told_by (record { code = f.code; length = 0; layer = f.layer; sector = k }) [] buf) (sym (no_sector model_checks f (sym err))) ∙ ap (λ x. told_by x [] buf) (sym is)))
       (ap (λ x. x.refused) is_refusal) same.medium (λ k. ap (λ s. a.member s k) same.allocator) (ap a.span same.allocator) same.state
 
@@ -353,7 +353,7 @@ module _ {D S : Type 0} (r : Reading D) (a : Allocating S) (n : List ℕ) (d e :
       let there = accepted_then ok in
       let own = v.laid there.0 in
       let after : Erased r a n own.0 d e = (does own.0 (known own.0 (λ _. (own.1, own.2)))).leaves in
-      served r a b call d e (told_by ans [] buf) rep (λ i. let z : ◌≡◌ {A = ℕ} 0 1 = cc in absurd (omega arith))
+      served r a b call d e (told_by ans [] buf) rep (λ i. absurd cc)
       (ap told done_is ∙ ap (λ x. told_by x [] buf) (sym is))
       (record {
         door = after.door ∙ (v.door ∙ sym (ap (λ x. x.after.door) done_is));

@@ -1,5 +1,5 @@
 -- What EXAMINE answers, from what its code does.
-use Rattle.std.proofs.Common.{◌≡◌, ℕ, Bool, true, false, not, [], length, Ok, Err, Result, sym, refl, ap, ◌∙◌, arith}
+use Rattle.std.proofs.Common.{◌≡◌, ℕ, Bool, true, false, not, [], length, Ok, Err, Result, sym, refl, ap, ◌∙◌}
 use Rattle.std.proofs.lemmas.Bool.{not-false}
 use Rattle.device.specs.Codes.{layer_number}
 use Rattle.device.specs.Device.{Medium}
@@ -61,7 +61,7 @@ module _ (m : Medium) where
 pub examines_refused : (m : Medium) (f : Fault) → Err f ≡ first_fault (initialize_checks false m.door (length m.sectors)) → Examines m (Err f)
 examines_refused m f e = record {
   refused = λ g h. e ∙ h;
-  found = λ h. let z : ◌≡◌ {A = ℕ} 0 1 = cc in absurd (omega arith);
+  found = λ h. absurd cc;
 }
 
 -- what else an answer holds does not matter
@@ -92,6 +92,6 @@ module _ (m : Medium) (ok : Ok tt ≡ first_fault (initialize_checks false m.doo
   examines_fault f does =
       let fit = readable false m.door (length m.sectors) ok in
       record {
-        refused = λ g h. let z : ◌≡◌ {A = ℕ} 0 1 = cc in absurd (omega arith);
+        refused = λ g h. absurd cc;
         found = λ _. tells_fault (reading m.sectors) f (does.found fit.1 fit.0);
       }

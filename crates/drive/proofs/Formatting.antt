@@ -1,5 +1,5 @@
 -- The promise of FORMAT, from what its code does.
-use Rattle.std.proofs.Common.{◌≡◌, ℕ, Bool, true, false, cond, not, ◌&&◌, ltb, leb, List, [], map, length, is_some, Ok, Err, Result, sym, refl, ap, ◌∙◌, arith}
+use Rattle.std.proofs.Common.{◌≡◌, ℕ, Bool, true, false, cond, not, ◌&&◌, ltb, leb, List, [], map, length, is_some, Ok, Err, Result, sym, refl, ap, ◌∙◌}
 use Rattle.std.proofs.lemmas.Bool.{and_parts, false≢true, not-false}
 use Rattle.device.specs.Device.{Medium}
 use Rattle.device.specs.declared.fault.Fault.{Fault}
@@ -33,7 +33,7 @@ and_true false y = refl
 
 -- a check that was passed, and those after it
 pub passed : (x : Bool) (f : Fault) (rest : Result Unit Fault) → Ok tt ≡ cond x (Err f) rest → (x ≡ false) × (Ok tt ≡ rest)
-passed true f rest e = let z : ◌≡◌ {A = ℕ} 0 1 = cc in absurd (omega arith)
+passed true f rest e = absurd cc
 passed false f rest e = (refl, e)
 
 -- so a disk that FORMAT takes is no larger than an allocator can hold
@@ -90,7 +90,7 @@ module _ {D S : Type 0} (r : Reading D) (a : Allocating S) (d : Drive D S) (id :
   refused e f ans does is buf b rep =
       let err = sym does.answer in
       let o = outcome_is buf b rep ∙ ap (by_fault b buf (done (started b []) buf 0)) err in
-      turned_down r a b (call buf) d e (told_by ans [] buf) rep (λ i. let z : ◌≡◌ {A = ℕ} 0 1 = cc in absurd (omega arith))
+      turned_down r a b (call buf) d e (told_by ans [] buf) rep (λ i. absurd cc)
       (ap told o ∙ (ap (λ n. told_by (record { code = f.code; length = 0; layer = f.layer; sector = n }) [] buf) (sym (no_sector checks f err)) ∙ ap (λ x. told_by x [] buf) (sym is)))
       (ap (λ x. x.refused) o) does.medium does.free does.span does.state
 
@@ -103,7 +103,7 @@ module _ {D S : Type 0} (r : Reading D) (a : Allocating S) (d : Drive D S) (id :
       let o : outcome b (view r a d) (call buf) ≡ done (started b []) buf 0 = outcome_is buf b rep ∙ ap (by_fault b buf (done (started b []) buf 0)) ok in
       let over : (r.medium e.device).sectors ≡ overwritten (fixed_sectors (formatted id b.size)) m.sectors = ap (λ x. x.sectors) medium ∙ written_over id m.sectors b.size v.size in
       let spare : Spares (formatted id b.size) (a.member e.allocator) = λ n. does.free n ∙ (ap (λ s. leb reserved n && ltb n s) v.size ∙ and_true (leb reserved n) (ltb n b.size)) in
-      served r a b (call buf) d e (told_by ans [] buf) rep (λ i. let z : ◌≡◌ {A = ℕ} 0 1 = cc in absurd (omega arith))
+      served r a b (call buf) d e (told_by ans [] buf) rep (λ i. absurd cc)
       (ap told o ∙ ap (λ x. told_by x [] buf) (sym is))
       (record {
         door = ap (λ x. x.door) medium ∙ (v.door ∙ sym (ap (λ x. x.after.door) o));

@@ -1,5 +1,5 @@
 -- The promise of INITIALIZE, from what its code does.
-use Rattle.std.proofs.Common.{◌≡◌, ℕ, suc, Bool, true, false, cond, not, ◌&&◌, ltb, leb, List, [], ◌∷◌, map, length, is_some, Some, None, Ok, Err, Option, Result, sym, refl, ap, ◌∙◌, subst, arith}
+use Rattle.std.proofs.Common.{◌≡◌, ℕ, suc, Bool, true, false, cond, not, ◌&&◌, ltb, leb, List, [], ◌∷◌, map, length, is_some, Some, None, Ok, Err, Option, Result, sym, refl, ap, ◌∙◌, subst}
 use Rattle.std.specs.List.{AllByRecursion}
 use Rattle.std.proofs.lemmas.Bool.{false≢true}
 use Rattle.device.specs.Codes.{layer_number}
@@ -58,7 +58,7 @@ initializes_refused r a d f whole e = record {
   whole = whole;
   medium = refl;
   refused = λ g h. (e ∙ h, refl, refl);
-  found = λ h. let z : ◌≡◌ {A = ℕ} 0 1 = cc in absurd (omega arith);
+  found = λ h. absurd cc;
 }
 
 -- what the code's steps add up to: d before the disk is read, k after, e in the end
@@ -87,7 +87,7 @@ module _ {D S : Type 0} (r : Reading D) (a : Allocating S) (d k e : Drive D S) (
       record {
         whole = whole;
         medium = ap r.medium device ∙ same;
-        refused = λ g h. let z : ◌≡◌ {A = ℕ} 0 1 = cc in absurd (omega arith);
+        refused = λ g h. absurd cc;
         found = λ _. reads_in (reading m.sectors) x (takes (reading m.sectors) (ap sized is ∙ fit.1) (does.found fit.1 fit.0));
       }
 

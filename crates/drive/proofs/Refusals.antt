@@ -1,5 +1,5 @@
 -- The first check that applies, as the model's outcome and as a fault.
-use Rattle.std.proofs.Common.{◌≡◌, ℕ, Bool, true, false, cond, List, [], ◌∷◌, Ok, Err, Result, sym, refl, ap, ◌∙◌, arith}
+use Rattle.std.proofs.Common.{◌≡◌, ℕ, Bool, true, false, cond, List, [], ◌∷◌, Ok, Err, Result, sym, refl, ap, ◌∙◌}
 use Rattle.std.proofs.lemmas.Result.{err_from_is_err_and}
 use Rattle.std.specs.Result.{IsErrAnd}
 use Rattle.device.specs.declared.fault.Fault.{Fault}
@@ -28,7 +28,7 @@ refusal_by_fault b buf (c ∷ cs) o = by c.applies (refusal_by_fault b buf cs o)
 
 -- such a fault names no sector
 pub no_sector : (cs : List Check) (f : Fault) → first_fault cs ≡ Err f → f.sector ≡ 0xFFFF
-no_sector [] f e = let z : ◌≡◌ {A = ℕ} 0 1 = cc in absurd (omega arith)
+no_sector [] f e = absurd cc
 no_sector (c ∷ cs) f e = by c.applies (no_sector cs f) e
   where
     by : (x : Bool) → (first_fault cs ≡ Err f → f.sector ≡ 0xFFFF) → cond x (Err (plain_fault c.code c.layer)) (first_fault cs) ≡ Err f → f.sector ≡ 0xFFFF

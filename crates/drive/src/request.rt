@@ -15,7 +15,7 @@ pub enum Request {
 }
 
 // The numbers that STATUS tells: free sectors, all others, files.
-#[derive(Clone, Copy, Debug, PartialEq, Eq)]
+#[derive(Clone, Copy, Debug, Default, PartialEq, Eq)]
 pub struct Usage {
     pub free: u16,
     pub used: u16,

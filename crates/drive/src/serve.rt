@@ -14,7 +14,7 @@ impl<D: WritingDevice, A: SectorAllocator> Drive<D, A> {
         ensures { Replies D.ReadingDevice A.SectorAllocator request.now self.old result.0 result.1 self.new }
     {
         match request {
-            Request::Format { id } => (self.format(id.as_slice()), None),
+            Request::Format { id } => (self.format(id), None),
             Request::Door { open } => (self.door(*open), None),
             Request::Tab { on } => (self.tab(*on), None),
             Request::Status => {

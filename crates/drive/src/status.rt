@@ -18,14 +18,7 @@ impl<D: WritingDevice, A: SectorAllocator> Drive<D, A> {
     {
         match self.usage() {
             Ok(usage) => (Answer::done(0), usage),
-            Err(fault) => {
-                let none = Usage {
-                    free: 0,
-                    used: 0,
-                    files: 0,
-                };
-                (fault.into(), none)
-            }
+            Err(fault) => (fault.into(), Usage::default()),
         }
     }
 

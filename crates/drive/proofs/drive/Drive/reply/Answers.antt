@@ -6,8 +6,7 @@ use Rattle.drive.proofs.drive.Drive.reply.Goals as goal
 
 pub returns-in-Format : goal.returns-in-Format
 returns-in-Format g c =
-    replied g.D.ReadingDevice g.A.SectorAllocator _ _ _ _ _ None c.in-Format.is
-    (subst (λ id. ServesAlone g.D.ReadingDevice g.A.SectorAllocator (Format id) c.args.self.now c.format.result [] c.format.new.self) c.as_slice.ensures.value c.format.ensures)
+    replied g.D.ReadingDevice g.A.SectorAllocator _ _ _ _ _ None c.in-Format.is (subst (λ id. ServesAlone g.D.ReadingDevice g.A.SectorAllocator (Format id) c.args.self.now c.format.result [] c.format.new.self) c.deref.ensures.value c.format.ensures)
 
 pub returns-in-Door : goal.returns-in-Door
 returns-in-Door g c = replied g.D.ReadingDevice g.A.SectorAllocator _ _ _ _ _ None c.in-Door.is c.door.ensures
