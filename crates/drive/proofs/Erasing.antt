@@ -4,7 +4,6 @@ use Rattle.std.proofs.lemmas.Bool.{cases_Bool, eqb-true, false≢true, lt-ltb, n
 use Rattle.device.specs.Device.{Medium}
 use Rattle.device.specs.declared.fault.Code.TheVariants.{AlreadyOpen, BadName, FileNotFound, NotInitialized}
 use Rattle.device.specs.declared.fault.Fault.{Fault}
-use Rattle.device.specs.declared.fault.Layer.TheVariants.{Request}
 use Rattle.device.specs.declared.reading.ReadingDevice.{Ghosts as Reading}
 use Rattle.freespace.specs.declared.allocator.SectorAllocator.{Ghosts as Allocating}
 use Rattle.freespace.specs.Sets.{with_number}
@@ -30,7 +29,7 @@ use Rattle.rules.proofs.Rearranging.{differ, held_found}
 use Rattle.drive.specs.declared.answer.Answer.{Answer}
 use Rattle.drive.specs.declared.drive.Drive.{Drive}
 use Rattle.drive.specs.declared.units.KnownDisk.{KnownDisk}
-use Rattle.drive.specs.Checks.{plain_fault, first_fault}
+use Rattle.drive.specs.Checks.{first_fault}
 use Rattle.drive.specs.Erasing.{Erased, Finds, GivesBack, Knows, LeavesErased, Removes, TriesErasing, Unlists, after_look_up, before_look_up, erasable, found_or_fault, less_one, own_erasable, place_emptied}
 use Rattle.drive.specs.Answers.{answer_of, done_answer, from_fault}
 use Rattle.drive.specs.Known.{file_count, map_changed, without_file}
@@ -157,20 +156,9 @@ module _ {D S : Type 0} (r : Reading D) (n : List ℕ) (d : Drive D S) (device :
   pub finds_unread : (x : Result Located Fault) (f : Fault) → x ≡ Err f → lookup ≡ Err f → Finds r n d x looked
   finds_unread x f is was = finds_by x (is ∙ ap after_found (sym was))
 
-  module _ (z : Lookup) (was : lookup ≡ Ok z) where
-    by_file : (o : Option Located) → z.file ≡ o → next (found_or_fault o) (last_refusal (r.medium device).tab) ≡ after_found lookup
-    by_file o is = ap (λ y. next (found_or_fault y) (last_refusal (r.medium device).tab)) (sym is) ∙ ap after_found (sym was)
-
-    pub finds_absent : (f : Fault) → z.file ≡ None → f ≡ plain_fault FileNotFound Request → Finds r n d (Err f) looked
-    finds_absent f none is = finds_by (Err f) (ap Err is ∙ by_file None none)
-
-    pub finds_in_use : (x : Result Located Fault) (y : Located) (f : Fault) → x ≡ Err f → z.file ≡ Some y →
-        Err f ≡ first_fault (after_look_up (any_named n d.state.units) (r.medium device).tab) → Finds r n d x looked
-    finds_in_use x y f is there refused = finds_by x (is ∙ (ap (λ w. next w (λ _. Ok y)) refused ∙ by_file (Some y) there))
-
-    pub finds_there : (y : Located) → z.file ≡ Some y →
-        Ok tt ≡ first_fault (after_look_up (any_named n d.state.units) (r.medium device).tab) → Finds r n d (Ok y) looked
-    finds_there y there unused = finds_by (Ok y) (ap (λ w. next w (λ _. Ok y)) unused ∙ by_file (Some y) there)
+  -- what the directory gave is y, and what is answered then is x
+  pub finds_then : (z : Lookup) (y x : Result Located Fault) → lookup ≡ Ok z → y ≡ found_or_fault z.file → x ≡ next y (last_refusal (r.medium device).tab) → Finds r n d x looked
+  finds_then z y x was found is = finds_by x (is ∙ (ap (λ w. next w (last_refusal (r.medium device).tab)) found ∙ ap after_found (sym was)))
 
 -- ---- all of it: d before, k after the file was found, e in the end
 

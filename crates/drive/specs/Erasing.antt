@@ -1,5 +1,6 @@
 -- What the code of ERASE does to the parts of a drive.
 use Rattle.std.specs.Prelude.{◌≡◌, ℕ, ◌+◌, ◌/◌, ◌<◌, Bool, true, false, not, ◌||◌, List, [], ◌∷◌, map, is_some, Some, None, Ok, Err, Option, Result, ◌==◌, slice_index_or, slice_set}
+use Rattle.std.specs.Option.{ok_or}
 use Rattle.device.specs.Device.{Medium, wrote}
 use Rattle.device.specs.declared.fault.Code.TheVariants.{AlreadyOpen, BadName, FileNotFound, NotInitialized}
 use Rattle.device.specs.declared.fault.Fault.{Fault}
@@ -31,8 +32,7 @@ abbrev pub after_look_up : Bool → Bool → List Check
 after_look_up held tab = request_check held AlreadyOpen ∷ tab_check tab ∷ []
 
 abbrev pub found_or_fault : Option Located → Result Located Fault
-found_or_fault None = Err (plain_fault FileNotFound Request)
-found_or_fault (Some x) = Ok x
+found_or_fault o = ok_or o (plain_fault FileNotFound Request)
 
 -- the file to erase, or the first refusal, where the directory gives this for the name
 abbrev pub erasable : Bool → Bool → List ℕ → Option Located → Bool → Bool → Result Located Fault

@@ -34,13 +34,9 @@ impl<D: WritingDevice, A: SectorAllocator> Drive<D, A> {
     {
         self.check_erase(name)?;
         let lookup = look_up(&mut self.device, name)?;
-        match lookup.file {
-            None => Err(request_fault(Code::FileNotFound)),
-            Some(file) => {
-                self.check_unused(name)?;
-                Ok(file)
-            }
-        }
+        let file = lookup.file.ok_or(request_fault(Code::FileNotFound))?;
+        self.check_unused(name)?;
+        Ok(file)
     }
 
     // The refusals that need no look at the directory.
