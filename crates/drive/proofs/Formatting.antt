@@ -1,12 +1,12 @@
 -- The promise of FORMAT, from what its code does.
-use Rattle.std.proofs.Common.{◌≡◌, ℕ, Bool, true, false, cond, not, ◌&&◌, ltb, leb, List, [], map, length, is_some, Ok, Err, Result, sym, refl, ap, ◌∙◌}
-use Rattle.std.proofs.lemmas.Bool.{and_parts, false≢true, not-false}
+use Rattle.std.proofs.Common.{◌≡◌, ℕ, Bool, true, false, cond, ◌&&◌, ltb, leb, List, [], map, length, is_some, Ok, Err, Result, sym, refl, ap, ◌∙◌}
+use Rattle.std.proofs.lemmas.Bool.{false≢true}
 use Rattle.device.specs.Device.{Medium}
 use Rattle.device.specs.declared.fault.Fault.{Fault}
 use Rattle.device.specs.declared.reading.ReadingDevice.{Ghosts as Reading}
 use Rattle.freespace.specs.declared.allocator.SectorAllocator.{Ghosts as Allocating}
-use Rattle.chains.specs.Layout.{Disk, formatted, reserved, sized, overwritten, fixed_sectors}
-use Rattle.chains.specs.Formatting.{formatted_disk, formatted_medium}
+use Rattle.chains.specs.Layout.{Disk, formatted, reserved, overwritten, fixed_sectors}
+use Rattle.chains.specs.Formatting.{formatted_disk}
 use Rattle.rules.specs.Model.{Model, Check, Format, any, done, started, some_open}
 use Rattle.rules.specs.Laid.{Spares}
 use Rattle.rules.specs.Runs.{Call, told}
@@ -16,9 +16,9 @@ use Rattle.drive.specs.declared.drive.Drive.{Drive}
 use Rattle.drive.specs.Checks.{first_fault, format_checks}
 use Rattle.drive.specs.Answers.{answer_of, done_answer, from_fault}
 use Rattle.drive.specs.Known.{file_count, map_changed}
-use Rattle.drive.specs.Parts.{Formats, formatted_state, own_checks}
+use Rattle.drive.specs.Parts.{Formats, own_checks}
 use Rattle.drive.specs.Serves.{Represents, ServesAlone, view, told_by}
-use Rattle.drive.specs.Units.{any_open, is_open, unit_of}
+use Rattle.drive.specs.Units.{is_open, unit_of}
 use Rattle.drive.proofs.Refusals.{by_fault, refusal_by_fault, no_sector}
 use Rattle.drive.proofs.Steps.{served, turned_down}
 
@@ -35,33 +35,6 @@ and_true false y = refl
 pub passed : (x : Bool) (f : Fault) (rest : Result Unit Fault) → Ok tt ≡ cond x (Err f) rest → (x ≡ false) × (Ok tt ≡ rest)
 passed true f rest e = absurd cc
 passed false f rest e = (refl, e)
-
--- so a disk that FORMAT takes is no larger than an allocator can hold
-few_sectors : (p q t : Bool) (s : ℕ) (id : List ℕ) → Ok tt ≡ first_fault (format_checks p q t s id) → leb s 2464 ≡ true
-few_sectors p q t s id e =
-    let size = (passed (not (sized s)) _ _ (passed t _ _ (passed q _ _ (passed p _ _ e).1).1).1).0 in
-    (and_parts (leb 64 s) (leb s 2464) (not-false (sized s) size)).1
-
--- what the code's steps add up to
-pub formats_done : {D S : Type 0} (r : Reading D) (a : Allocating S) (id : List ℕ) (d e : Drive D S) (size : ℕ) (filled : Bool) →
-    Ok tt ≡ first_fault (own_checks r d id) →
-    r.medium e.device ≡ formatted_medium (r.medium d.device) id →
-    size ≡ length (r.medium d.device).sectors →
-    filled ≡ leb size 2464 →
-    a.span e.allocator ≡ cond filled size (a.span d.allocator) →
-    ((n : ℕ) → a.member e.allocator n ≡ cond filled (leb 36 n && ltb n size) (a.member d.allocator n)) →
-    e.state ≡ formatted_state d.state →
-    Formats r a id d (Ok tt) e
-formats_done r a id d e size filled accepted medium is fits span free state =
-    let m = r.medium d.device in
-    let full : filled ≡ true = fits ∙ (ap (λ s. leb s 2464) is ∙ few_sectors (any_open d.state.units) m.door m.tab (length m.sectors) id accepted) in
-    record {
-      answer = accepted;
-      medium = medium;
-      free = λ n. free n ∙ (ap (λ x. cond x (leb 36 n && ltb n size) (a.member d.allocator n)) full ∙ ap (λ s. leb 36 n && ltb n s) is);
-      span = span ∙ (ap (λ x. cond x size (a.span d.allocator)) full ∙ is);
-      state = state;
-    }
 
 module _ {D S : Type 0} (r : Reading D) (a : Allocating S) (d : Drive D S) (id : List ℕ) where
   abbrev m : Medium

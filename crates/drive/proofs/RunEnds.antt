@@ -62,11 +62,9 @@ served_next r a i xs d ys e e' z y within s serve same =
     }
 
 -- all of them
-pub all_served : {D S : Type 0} (r : Reading D) (a : Allocating S) (i : ℕ) (xs : List Exchange) (d : Drive D S) (ys : List Exchange) (e : Drive D S) → length xs ≤ i → ServedTo r a i xs d ys e → ServesAll r a d xs ys e × SameRequests xs ys
+pub all_served : {D S : Type 0} (r : Reading D) (a : Allocating S) (i : ℕ) (xs : List Exchange) (d : Drive D S) (ys : List Exchange) (e : Drive D S) → length xs ≤ i → ServedTo r a i xs d ys e → ServesAll r a d xs ys e
 all_served r a i xs d ys e past s =
-    let whole_xs = take_all i xs past in
-    let whole_ys = take_all i ys (omega (arith, s.long)) in
-    (subst (λ l. ServesAll r a d l ys e) whole_xs (subst (λ l. ServesAll r a d (take i xs) l e) whole_ys s.served), subst (λ l. SameRequests l ys) whole_xs (subst (SameRequests (take i xs)) whole_ys s.requests))
+    subst (λ l. ServesAll r a d l ys e) (take_all i xs past) (subst (λ l. ServesAll r a d (take i xs) l e) (take_all i ys (omega (arith, s.long))) s.served)
 
 -- from a new drive it is a run, whole
 pub run_from_new : {D S : Type 0} (r : Reading D) (a : Allocating S) (d : Drive D S) (xs ys : List Exchange) (e : Drive D S) → ServesAll r a d xs ys e → RunsIfFresh r a d xs ys e

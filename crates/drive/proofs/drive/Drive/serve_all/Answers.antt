@@ -10,7 +10,6 @@ loop-exchange-preserved g c =
     served_next g.D.ReadingDevice g.A.SectorAllocator c.loop-exchange.exchange-index _ _ c.loop-exchange.exchanges _ _ _ _ (omega arith)
     c.loop-exchange.invariant c.serve.ensures.served c.serve.ensures.request
 
-pub returns : goal.returns
-returns g c =
-    let all = all_served g.D.ReadingDevice g.A.SectorAllocator c.loop-exchange.exchange-index _ _ _ _ (omega arith) c.loop-exchange.invariant in
-    record { served = all.0; requests = all.1; runs = run_from_new g.D.ReadingDevice g.A.SectorAllocator _ _ _ _ all.0 }
+pub returns-clause-runs : goal.returns-clause-runs
+returns-clause-runs g c =
+    run_from_new g.D.ReadingDevice g.A.SectorAllocator _ _ _ _ (all_served g.D.ReadingDevice g.A.SectorAllocator c.loop-exchange.exchange-index _ _ _ _ (omega arith) c.loop-exchange.invariant)
