@@ -37,9 +37,6 @@ usage b buf = record { code = code_number code.Done; len = 0; layer = layer_numb
 abbrev unknown : Model → List ℕ → Outcome
 unknown b buf = record { code = code_number code.NotInitialized; len = 0; layer = layer_number layer.Request; sector = 0xFFFF; numbers = 0 ∷ 0 ∷ 0 ∷ []; buffer = buf; after = b; refused = true; added = 0 }
 
-told_same : (x y : Answer) (f g u w k n : ℕ) (buf : List ℕ) → x ≡ y → f ≡ g → u ≡ w → k ≡ n → told_by x (f ∷ u ∷ k ∷ []) buf ≡ told_by y (g ∷ w ∷ n ∷ []) buf
-told_same x y f g u w k n buf p q s t = cc
-
 -- a new drive
 pub fresh_drive : {D S : Type 0} (r : Reading D) (a : Allocating S) (d : Drive D S) → d.state.disk ≡ None → map unit_of d.state.units ≡ replicate 16 closed → Fresh r a d.device d.allocator d
 fresh_drive r a d unknown closed_all =
@@ -132,7 +129,7 @@ module _ {D S : Type 0} (r : Reading D) (a : Allocating S) (d : Drive D S) where
       let files_is : k.files ≡ length b.files = sym (ap file_count known) ∙ rep.files in
       served r a b (record { request = Status; buffer = buf }) d d (told_by ans (free ∷ (length (r.medium d.device).sectors - free) ∷ k.files ∷ []) buf) rep
       (λ i. absurd cc)
-      (ap told is ∙ sym (told_same ans done_answer _ _ _ _ _ _ buf e free_is used_is files_is))
+      (ap told is ∙ sym (λ i. told_by (e i) (free_is i ∷ used_is i ∷ files_is i ∷ []) buf))
       (record {
         door = v.door ∙ sym (ap (λ o. o.after.door) is);
         tab = v.tab ∙ sym (ap (λ o. o.after.tab) is);

@@ -36,8 +36,8 @@ use Rattle.drive.specs.Known.{file_count, map_changed, without_file}
 use Rattle.drive.specs.Serves.{Represents, Serving, ServesAlone, view, told_by}
 use Rattle.drive.specs.Units.{any_named, unit_of}
 use Rattle.drive.proofs.Formatting.{passed}
-use Rattle.drive.proofs.Refusals.{by_fault, refusal_by_fault, no_sector}
-use Rattle.drive.proofs.Steps.{served, turned_down}
+use Rattle.drive.proofs.Refusals.{by_fault, refusal_by_fault}
+use Rattle.drive.proofs.Steps.{refused_by, served}
 
 pub ok_same : {A : Type 0} {x y : A} → ◌≡◌ {A = Result A Fault} (Ok x) (Ok y) → x ≡ y
 ok_same e = cc
@@ -307,18 +307,12 @@ module _ {D S : Type 0} (r : Reading D) (a : Allocating S) (n : List ℕ) (d e :
       let own = some_layout b.initialized refl in
       (does own.0 (known own.0 own.1)).answer ∙ same_checks own.0 own.1
 
-  outcome_is : (y : Result Unit Fault) → y ≡ first_fault model_checks → o ≡ by_fault b buf gone y
-  outcome_is y is = refusal_by_fault b buf model_checks gone ∙ ap (by_fault b buf gone) (sym is)
-
   erase_refused : (f : Fault) (ans : Answer) → TriesErasing r a n d (Err f) e → ans ≡ from_fault f → Serving r a b call d (told_by ans [] buf) e
   erase_refused f ans does is =
-      let err = answered_as (Err f) does in
-      let is_refusal = outcome_is (Err f) err in
       let own = some_layout b.initialized refl in
       let same = (does own.0 (known own.0 own.1)).leaves in
-      turned_down r a b call d e (told_by ans [] buf) rep (λ i. absurd cc)
-      (ap told is_refusal ∙ (ap (λ k. told_by (record { code = f.code; length = 0; layer = f.layer; sector = k }) [] buf) (sym (no_sector model_checks f (sym err))) ∙ ap (λ x. told_by x [] buf) (sym is)))
-      (ap (λ x. x.refused) is_refusal) same.medium (λ k. ap (λ s. a.member s k) same.allocator) (ap a.span same.allocator) same.state
+      refused_by r a b call d e rep (λ i. absurd cc) model_checks gone f ans (refusal_by_fault b buf model_checks gone) (sym (answered_as (Err f) does)) is
+      same.medium (λ k. ap (λ s. a.member s k) same.allocator) (ap a.span same.allocator) same.state
 
   -- the model is initialised and has the file, where nothing refuses
   accepted_then : Ok tt ≡ first_fault model_checks → (b.initialized ≡ true) × (present b n ≡ true)
@@ -337,7 +331,7 @@ module _ {D S : Type 0} (r : Reading D) (a : Allocating S) (n : List ℕ) (d e :
       let v = rep.tallies in
       let ok = answered_as (Ok tt) does in
       let lost = loses_one d.state.disk in
-      let done_is : o ≡ gone = outcome_is (Ok tt) ok in
+      let done_is : o ≡ gone = refusal_by_fault b buf model_checks gone ∙ ap (by_fault b buf gone) (sym ok) in
       let there = accepted_then ok in
       let own = v.laid there.0 in
       let after : Erased r a n own.0 d e = (does own.0 (known own.0 (λ _. (own.1, own.2)))).leaves in

@@ -19,8 +19,8 @@ use Rattle.drive.specs.Known.{file_count, map_changed}
 use Rattle.drive.specs.Parts.{Formats, own_checks}
 use Rattle.drive.specs.Serves.{Represents, ServesAlone, view, told_by}
 use Rattle.drive.specs.Units.{is_open, unit_of}
-use Rattle.drive.proofs.Refusals.{by_fault, refusal_by_fault, no_sector}
-use Rattle.drive.proofs.Steps.{served, turned_down}
+use Rattle.drive.proofs.Refusals.{by_fault, refusal_by_fault}
+use Rattle.drive.proofs.Steps.{refused_by, served}
 
 written_over : (id : List ℕ) (ss : Disk) (s : ℕ) → length ss ≡ s → formatted_disk id ss ≡ overwritten (fixed_sectors (formatted id s)) ss
 unfolding formatted_disk
@@ -49,10 +49,7 @@ module _ {D S : Type 0} (r : Reading D) (a : Allocating S) (d : Drive D S) (id :
   same_checks : (b : Model) → Represents r a b d → format_checks (some_open b) b.door b.tab b.size id ≡ checks
   same_checks b rep =
       let v = rep.tallies in
-      sym (same_parts _ _ _ _ _ _ _ _ (ap (any is_open) v.units) v.door v.tab v.size)
-    where
-      same_parts : (p p' q q' t t' : Bool) (s s' : ℕ) → p ≡ p' → q ≡ q' → t ≡ t' → s ≡ s' → format_checks p q t s id ≡ format_checks p' q' t' s' id
-      same_parts p p' q q' t t' s s' e f g h = cc
+      sym (λ i. format_checks (any is_open (v.units i)) (v.door i) (v.tab i) (v.size i) id)
 
   outcome_is : (buf : List ℕ) (b : Model) → Represents r a b d → outcome b (view r a d) (call buf) ≡ by_fault b buf (done (started b []) buf 0) (first_fault checks)
   outcome_is buf b rep =
@@ -61,11 +58,7 @@ module _ {D S : Type 0} (r : Reading D) (a : Allocating S) (d : Drive D S) (id :
 
   refused : (e : Drive D S) (f : Fault) (ans : Answer) → Formats r a id d (Err f) e → ans ≡ from_fault f → ServesAlone r a (Format id) d ans [] e
   refused e f ans does is buf b rep =
-      let err = sym does.answer in
-      let o = outcome_is buf b rep ∙ ap (by_fault b buf (done (started b []) buf 0)) err in
-      turned_down r a b (call buf) d e (told_by ans [] buf) rep (λ i. absurd cc)
-      (ap told o ∙ (ap (λ n. told_by (record { code = f.code; length = 0; layer = f.layer; sector = n }) [] buf) (sym (no_sector checks f err)) ∙ ap (λ x. told_by x [] buf) (sym is)))
-      (ap (λ x. x.refused) o) does.medium does.free does.span does.state
+      refused_by r a b (call buf) d e rep (λ i. absurd cc) checks (done (started b []) buf 0) f ans (outcome_is buf b rep) (sym does.answer) is does.medium does.free does.span does.state
 
   accepted : (e : Drive D S) (ans : Answer) → Formats r a id d (Ok tt) e → ans ≡ done_answer → ServesAlone r a (Format id) d ans [] e
   accepted e ans does is buf b rep =

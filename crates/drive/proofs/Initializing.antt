@@ -32,8 +32,8 @@ use Rattle.drive.specs.Serves.{Represents, Serving, ServesAlone, view, told_by}
 use Rattle.drive.specs.Units.{any_open, is_open, unit_of}
 use Rattle.drive.proofs.Examining.{readable}
 use Rattle.drive.proofs.Formatting.{passed}
-use Rattle.drive.proofs.Refusals.{by_fault, refusal_by_fault, no_sector}
-use Rattle.drive.proofs.Steps.{served, turned_down}
+use Rattle.drive.proofs.Refusals.{by_fault, refusal_by_fault}
+use Rattle.drive.proofs.Steps.{refused_by, served, turned_down}
 
 read_same : {A : Type 0} {x y : A} → ◌≡◌ {A = Found A} (read x) (read y) → x ≡ y
 read_same e = cc
@@ -53,11 +53,11 @@ unknown_forgotten s off = ap (λ o. record s { disk = o }) (nothing s.disk off)
     nothing (Some k) e = absurd (false≢true (sym e))
 
 -- what was refused before the disk was read
-pub initializes_refused : {D S : Type 0} (r : Reading D) (a : Allocating S) (d : Drive D S) (f : Fault) → AllByRecursion WellFormed (r.medium d.device).sectors → Err f ≡ first_fault (own_initialize_checks r d) → Initializes r a d (Err f) d
-initializes_refused r a d f whole e = record {
+pub initializes_refused : {D S : Type 0} (r : Reading D) (a : Allocating S) (d : Drive D S) (x : Result Unit Fault) (f : Fault) → AllByRecursion WellFormed (r.medium d.device).sectors → x ≡ Err f → Err f ≡ first_fault (own_initialize_checks r d) → Initializes r a d x d
+initializes_refused r a d x f whole is e = record {
   whole = whole;
   medium = refl;
-  refused = λ g h. (e ∙ h, refl, refl);
+  refused = λ g h. (is ∙ (e ∙ h), refl, refl);
   found = λ h. absurd cc;
 }
 
@@ -105,10 +105,7 @@ module _ {D S : Type 0} (r : Reading D) (a : Allocating S) (d e : Drive D S) (bu
   same_checks : initialize_checks (some_open b) b.door b.size ≡ own_initialize_checks r d
   same_checks =
       let v = rep.tallies in
-      sym (same_parts _ _ _ _ _ _ (ap (any is_open) v.units) v.door v.size)
-    where
-      same_parts : (p p' q q' : Bool) (s s' : ℕ) → p ≡ p' → q ≡ q' → s ≡ s' → initialize_checks p q s ≡ initialize_checks p' q' s'
-      same_parts p p' q q' s s' e f g = cc
+      sym (λ i. initialize_checks (any is_open (v.units i)) (v.door i) (v.size i))
 
   outcome_is : outcome b (view r a d) call ≡ by_fault b buf after_checks (first_fault (own_initialize_checks r d))
   outcome_is =
@@ -122,10 +119,7 @@ module _ {D S : Type 0} (r : Reading D) (a : Allocating S) (d e : Drive D S) (bu
   checked : (f : Fault) (ans : Answer) → ReadsOnlySound m.sectors → first_fault (own_initialize_checks r d) ≡ Err f → ans ≡ from_fault f →
       r.medium e.device ≡ m → e.allocator ≡ d.allocator → e.state ≡ d.state → Serving r a b call d (told_by ans [] buf) e
   checked f ans reads err is medium allocator state =
-      let is_refusal = outcome_is ∙ ap (by_fault b buf after_checks) err in
-      turned_down r a b call d e (told_by ans [] buf) rep (λ _. reads)
-      (ap told is_refusal ∙ (ap (λ n. told_by (record { code = f.code; length = 0; layer = f.layer; sector = n }) [] buf) (sym (no_sector (own_initialize_checks r d) f err)) ∙ ap (λ x. told_by x [] buf) (sym is)))
-      (ap (λ x. x.refused) is_refusal) medium (λ n. ap (λ s. a.member s n) allocator) (ap a.span allocator) state
+      refused_by r a b call d e rep (λ _. reads) (own_initialize_checks r d) after_checks f ans outcome_is err is medium (λ n. ap (λ s. a.member s n) allocator) (ap a.span allocator) state
 
   -- the disk was taken: its layout is l, and the model's files are as many
   taken : (ans : Answer) (l : Layout) (b' : Model) → ReadsOnlySound m.sectors → ans ≡ done_answer → r.medium e.device ≡ m → TakesOver r a d l e →

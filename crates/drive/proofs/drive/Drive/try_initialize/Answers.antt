@@ -1,13 +1,11 @@
-use Rattle.std.proofs.Common.{sym, refl, subst}
-use Rattle.drive.specs.Parts.{Initializes}
+use Rattle.std.proofs.Common.{refl}
 use Rattle.drive.proofs.Initializing.{initializes_done, initializes_refused}
 use Rattle.drive.proofs.Refusals.{passed_on}
 use Rattle.drive.proofs.drive.Drive.try_initialize.Goals as goal
 
 pub returns-in_err-check_initialize : goal.returns-in_err-check_initialize
 returns-in_err-check_initialize g c =
-    subst (λ x. Initializes g.D.ReadingDevice g.A.SectorAllocator c.args.self.now x c.args.self.now) (sym (passed_on _ _ c.from_residual.ensures.1))
-    (initializes_refused g.D.ReadingDevice g.A.SectorAllocator c.args.self.now _ c.count-sectors.ensures.whole c.in_err-check_initialize.ensures)
+    initializes_refused g.D.ReadingDevice g.A.SectorAllocator c.args.self.now _ _ c.count-sectors.ensures.whole (passed_on _ _ c.from_residual.ensures.1) c.in_err-check_initialize.ensures
 
 pub returns : goal.returns
 returns g c =
