@@ -1,6 +1,7 @@
 -- The promises of a new drive, of DOOR, TAB and STATUS, from what the code does.
-use Rattle.std.proofs.Common.{◌≡◌, ℕ, ◌-◌, Bool, true, false, cond, List, [], ◌∷◌, map, length, replicate, None, Ok, Err, sym, refl, ap, ◌∙◌, subst, arith}
+use Rattle.std.proofs.Common.{◌≡◌, ℕ, ◌-◌, Bool, true, false, cond, List, [], ◌∷◌, map, length, replicate, is_some, Some, None, Ok, Err, Option, sym, refl, ap, ◌∙◌, subst}
 use Rattle.std.proofs.lemmas.Bool.{false≢true}
+use Rattle.std.specs.Option.{ok_or, option_map}
 use Rattle.device.specs.declared.reading.ReadingDevice.{Ghosts as Reading}
 use Rattle.device.specs.Codes.{code_number, layer_number}
 use Rattle.device.specs.Device.{Medium}
@@ -19,9 +20,12 @@ use Rattle.rules.proofs.Laying.{laid_agrees, starts_laid}
 use Rattle.drive.specs.declared.answer.Answer.{Answer}
 use Rattle.drive.specs.declared.drive.Drive.{Drive}
 use Rattle.drive.specs.declared.request.Usage.{Usage}
+use Rattle.drive.specs.declared.units.KnownDisk.{KnownDisk}
 use Rattle.drive.specs.Checks.{plain_fault}
 use Rattle.drive.specs.Exchanges.{Fresh}
-use Rattle.drive.specs.Parts.{Sets, done_answer, from_fault, own_usage}
+use Rattle.drive.specs.Answers.{done_answer, from_fault}
+use Rattle.drive.specs.Known.{file_count, map_changed}
+use Rattle.drive.specs.Parts.{Sets, own_usage}
 use Rattle.drive.specs.Serves.{Represents, Serving, ServesAlone, view, told_by}
 use Rattle.drive.specs.Units.{unit_of}
 use Rattle.drive.proofs.Steps.{idle_effect, served, turned_down}
@@ -33,12 +37,9 @@ usage b buf = record { code = code_number code.Done; len = 0; layer = layer_numb
 abbrev unknown : Model → List ℕ → Outcome
 unknown b buf = record { code = code_number code.NotInitialized; len = 0; layer = layer_number layer.Request; sector = 0xFFFF; numbers = 0 ∷ 0 ∷ 0 ∷ []; buffer = buf; after = b; refused = true; added = 0 }
 
-told_same : (x y : Answer) (f g u w k n : ℕ) (buf : List ℕ) → x ≡ y → f ≡ g → u ≡ w → k ≡ n → told_by x (f ∷ u ∷ k ∷ []) buf ≡ told_by y (g ∷ w ∷ n ∷ []) buf
-told_same x y f g u w k n buf p q s t = cc
-
 -- a new drive
-pub fresh_drive : {D S : Type 0} (r : Reading D) (a : Allocating S) (d : Drive D S) → d.state.initialized ≡ false → d.state.changed ≡ false → d.state.files ≡ 0 → map unit_of d.state.units ≡ replicate 16 closed → Fresh r a d.device d.allocator d
-fresh_drive r a d off same none closed_all =
+pub fresh_drive : {D S : Type 0} (r : Reading D) (a : Allocating S) (d : Drive D S) → d.state.disk ≡ None → map unit_of d.state.units ≡ replicate 16 closed → Fresh r a d.device d.allocator d
+fresh_drive r a d unknown closed_all =
     let m = r.medium d.device in
     record {
       seen = λ i. record {
@@ -47,21 +48,21 @@ fresh_drive r a d off same none closed_all =
         tab = m.tab;
         free = a.member d.allocator;
         units = closed_all i;
-        initialized = off i;
-        changed = same i;
+        initialized = is_some (unknown i);
+        changed = map_changed (unknown i);
       };
       represents = record {
         tallies = record {
           door = refl;
           tab = refl;
           units = closed_all;
-          initialized = off;
-          map_changed = same;
+          initialized = ap is_some unknown;
+          map_changed = ap map_changed unknown;
           size = refl;
           orderly = starts_laid.new _ _ _;
           laid = λ i. absurd (false≢true i);
         };
-        files = none;
+        files = ap file_count unknown;
         span = λ i. absurd (false≢true i);
       };
     }
@@ -84,53 +85,51 @@ module _ {D S : Type 0} (r : Reading D) (a : Allocating S) (d : Drive D S) where
         door = ap (λ y. y.door) does.medium ∙ (door_is ∙ sym (ap (λ y. y.after.door) o));
         tab = ap (λ y. y.tab) does.medium ∙ (tab_is ∙ sym (ap (λ y. y.after.tab) o));
         units = ap (λ s. map unit_of s.units) does.state ∙ (v.units ∙ sym (ap (λ y. y.after.units) o));
-        initialized = ap (λ s. s.initialized) does.state ∙ (v.initialized ∙ sym (ap (λ y. y.after.initialized) o));
-        map_changed = ap (λ s. s.changed) does.state ∙ (v.map_changed ∙ sym (ap (λ y. y.after.changed) o));
+        initialized = ap (λ s. is_some s.disk) does.state ∙ (v.initialized ∙ sym (ap (λ y. y.after.initialized) o));
+        map_changed = ap (λ s. map_changed s.disk) does.state ∙ (v.map_changed ∙ sym (ap (λ y. y.after.changed) o));
         untouched = λ _. same;
         still_free = λ _ _. free;
         changed = λ _ l laid _. idle_effect b (view r a d) (record { request = q; buffer = buf }) (view r a e)
             (record { sectors = same; free = free; initialized = ap (λ y. y.after.initialized) o; added = ap (λ y. y.added) o; none = none }) l laid;
       })
-      (ap (λ s. s.files) does.state ∙ (rep.files ∙ sym (ap (λ y. length y.after.files) o)))
+      (ap (λ s. file_count s.disk) does.state ∙ (rep.files ∙ sym (ap (λ y. length y.after.files) o)))
       (λ i. ap a.span does.allocator ∙ (rep.span (sym (ap (λ y. y.after.initialized) o) ∙ i) ∙ sym (ap (λ y. y.after.size) o)))
 
   pub door_serves : (x : Bool) (ans : Answer) (e : Drive D S) → Sets r (device.with_door (r.medium d.device) x) d ans e → ServesAlone r a (Door x) d ans [] e
   door_serves x ans e does buf b rep =
-      settled (Door x) _ ans e buf b x b.tab does rep (λ i. let z : ◌≡◌ {A = ℕ} 0 1 = cc in absurd (omega arith)) refl (λ _. refl) refl refl rep.tallies.tab
+      settled (Door x) _ ans e buf b x b.tab does rep (λ i. absurd cc) refl (λ _. refl) refl refl rep.tallies.tab
 
   pub tab_serves : (x : Bool) (ans : Answer) (e : Drive D S) → Sets r (device.with_tab (r.medium d.device) x) d ans e → ServesAlone r a (Tab x) d ans [] e
   tab_serves x ans e does buf b rep =
-      settled (Tab x) _ ans e buf b b.door x does rep (λ i. let z : ◌≡◌ {A = ℕ} 0 1 = cc in absurd (omega arith)) refl (λ _. refl) refl rep.tallies.door refl
+      settled (Tab x) _ ans e buf b b.door x does rep (λ i. absurd cc) refl (λ _. refl) refl rep.tallies.door refl
 
-  status_refused : (ans : Answer) → ans ≡ from_fault (plain_fault code.NotInitialized layer.Request) → d.state.initialized ≡ false → ServesAlone r a Status d ans (0 ∷ 0 ∷ 0 ∷ []) d
+  status_refused : (ans : Answer) → ans ≡ from_fault (plain_fault code.NotInitialized layer.Request) → is_some d.state.disk ≡ false → ServesAlone r a Status d ans (0 ∷ 0 ∷ 0 ∷ []) d
   status_refused ans e off buf b rep =
       let f : b.initialized ≡ false = sym rep.tallies.initialized ∙ off in
       let is : outcome b (view r a d) (record { request = Status; buffer = buf }) ≡ unknown b buf = ap (λ i. cond i (usage b buf) (unknown b buf)) f in
       turned_down r a b (record { request = Status; buffer = buf }) d d (told_by ans (0 ∷ 0 ∷ 0 ∷ []) buf) rep
-      (λ i. let z : ◌≡◌ {A = ℕ} 0 1 = cc in absurd (omega arith)) (ap told is ∙ ap (λ y. told_by y (0 ∷ 0 ∷ 0 ∷ []) buf) (sym e))
+      (λ i. absurd cc) (ap told is ∙ ap (λ y. told_by y (0 ∷ 0 ∷ 0 ∷ []) buf) (sym e))
       (ap (λ o. o.refused) is) refl (λ n. refl) refl refl
 
   abbrev free : ℕ
   free = counted (a.member d.allocator) (a.span d.allocator)
 
-  abbrev own : Usage
-  own = record { free = free; used = length (r.medium d.device).sectors - free; files = d.state.files }
+  abbrev own : ℕ → Usage
+  own files = record { free = free; used = length (r.medium d.device).sectors - free; files = files }
 
-  abbrev numbers : List ℕ
-  numbers = free ∷ (length (r.medium d.device).sectors - free) ∷ d.state.files ∷ []
-
-  status_done : (ans : Answer) → ans ≡ done_answer → d.state.initialized ≡ true → ServesAlone r a Status d ans numbers d
-  status_done ans e on buf b rep =
+  status_done : (k : KnownDisk) (ans : Answer) → ans ≡ done_answer → d.state.disk ≡ Some k → ServesAlone r a Status d ans (free ∷ (length (r.medium d.device).sectors - free) ∷ k.files ∷ []) d
+  status_done k ans e known buf b rep =
       let v = rep.tallies in
-      let t : b.initialized ≡ true = sym v.initialized ∙ on in
+      let t : b.initialized ≡ true = sym v.initialized ∙ ap is_some known in
       let is : outcome b (view r a d) (record { request = Status; buffer = buf }) ≡ usage b buf = ap (λ i. cond i (usage b buf) (unknown b buf)) t in
       let laid = v.laid t in
       let counts = (laid_agrees b laid.0 (view r a d).sectors (view r a d).free laid.1 laid.2).counts in
       let free_is : free ≡ free_count b = ap (counted (a.member d.allocator)) (rep.span t ∙ sym v.size) ∙ counts in
       let used_is : length (r.medium d.device).sectors - free ≡ b.size - free_count b = ap (λ n. n - free) v.size ∙ ap (λ n. b.size - n) free_is in
-      served r a b (record { request = Status; buffer = buf }) d d (told_by ans numbers buf) rep
-      (λ i. let z : ◌≡◌ {A = ℕ} 0 1 = cc in absurd (omega arith))
-      (ap told is ∙ sym (told_same ans done_answer _ _ _ _ _ _ buf e free_is used_is rep.files))
+      let files_is : k.files ≡ length b.files = sym (ap file_count known) ∙ rep.files in
+      served r a b (record { request = Status; buffer = buf }) d d (told_by ans (free ∷ (length (r.medium d.device).sectors - free) ∷ k.files ∷ []) buf) rep
+      (λ i. absurd cc)
+      (ap told is ∙ sym (λ i. told_by (e i) (free_is i ∷ used_is i ∷ files_is i ∷ []) buf))
       (record {
         door = v.door ∙ sym (ap (λ o. o.after.door) is);
         tab = v.tab ∙ sym (ap (λ o. o.after.tab) is);
@@ -146,15 +145,17 @@ module _ {D S : Type 0} (r : Reading D) (a : Allocating S) (d : Drive D S) where
 
   -- by what the drive's own numbers are
   pub status_serves : (u : Usage) (ans : Answer) → Ok u ≡ own_usage r a d → ans ≡ done_answer → ServesAlone r a Status d ans (u.free ∷ u.used ∷ u.files ∷ []) d
-  status_serves u ans is e = by d.state.initialized refl is
+  status_serves u ans is e = by d.state.disk refl is
     where
-      by : (x : Bool) → d.state.initialized ≡ x → Ok u ≡ cond x (Ok own) (Err (plain_fault code.NotInitialized layer.Request)) → ServesAlone r a Status d ans (u.free ∷ u.used ∷ u.files ∷ []) d
-      by true on h = let same : own ≡ u = cc in subst (λ (w : Usage). ServesAlone r a Status d ans (w.free ∷ w.used ∷ w.files ∷ []) d) same (status_done ans e on)
-      by false off h = let z : ◌≡◌ {A = ℕ} 0 1 = cc in absurd (omega arith)
+      by : (o : Option KnownDisk) → d.state.disk ≡ o → Ok u ≡ ok_or (option_map (λ k. own k.files) o) (plain_fault code.NotInitialized layer.Request) → ServesAlone r a Status d ans (u.free ∷ u.used ∷ u.files ∷ []) d
+      by (Some k) known h = let same : own k.files ≡ u = cc in subst (λ (w : Usage). ServesAlone r a Status d ans (w.free ∷ w.used ∷ w.files ∷ []) d) same (status_done k ans e known)
+      by None off h = absurd cc
 
-  pub status_unknown : (f : Fault) (ans : Answer) → Err f ≡ own_usage r a d → ans ≡ from_fault f → ServesAlone r a Status d ans (0 ∷ 0 ∷ 0 ∷ []) d
-  status_unknown f ans is e = by d.state.initialized refl is
+  pub status_unknown : (f : Fault) (u : Usage) (ans : Answer) → Err f ≡ own_usage r a d → (u.free ≡ 0) × ((u.used ≡ 0) × (u.files ≡ 0)) → ans ≡ from_fault f → ServesAlone r a Status d ans (u.free ∷ u.used ∷ u.files ∷ []) d
+  status_unknown f u ans is zeros e =
+      let same : u.free ∷ u.used ∷ u.files ∷ [] ≡ 0 ∷ 0 ∷ 0 ∷ [] = cc in
+      subst (λ ns. ServesAlone r a Status d ans ns d) (sym same) (by d.state.disk refl is)
     where
-      by : (x : Bool) → d.state.initialized ≡ x → Err f ≡ cond x (Ok own) (Err (plain_fault code.NotInitialized layer.Request)) → ServesAlone r a Status d ans (0 ∷ 0 ∷ 0 ∷ []) d
-      by true on h = let z : ◌≡◌ {A = ℕ} 0 1 = cc in absurd (omega arith)
-      by false off h = let same : f ≡ plain_fault code.NotInitialized layer.Request = cc in status_refused ans (e ∙ ap from_fault same) off
+      by : (o : Option KnownDisk) → d.state.disk ≡ o → Err f ≡ ok_or (option_map (λ k. own k.files) o) (plain_fault code.NotInitialized layer.Request) → ServesAlone r a Status d ans (0 ∷ 0 ∷ 0 ∷ []) d
+      by (Some k) known h = absurd cc
+      by None off h = let same : f ≡ plain_fault code.NotInitialized layer.Request = cc in status_refused ans (e ∙ ap from_fault same) (ap is_some off)

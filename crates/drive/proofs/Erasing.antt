@@ -4,7 +4,6 @@ use Rattle.std.proofs.lemmas.Bool.{cases_Bool, eqb-true, false≢true, lt-ltb, n
 use Rattle.device.specs.Device.{Medium}
 use Rattle.device.specs.declared.fault.Code.TheVariants.{AlreadyOpen, BadName, FileNotFound, NotInitialized}
 use Rattle.device.specs.declared.fault.Fault.{Fault}
-use Rattle.device.specs.declared.fault.Layer.TheVariants.{Request}
 use Rattle.device.specs.declared.reading.ReadingDevice.{Ghosts as Reading}
 use Rattle.freespace.specs.declared.allocator.SectorAllocator.{Ghosts as Allocating}
 use Rattle.freespace.specs.Sets.{with_number}
@@ -29,20 +28,22 @@ use Rattle.rules.proofs.Lookups.{listed_at, located_present}
 use Rattle.rules.proofs.Rearranging.{differ, held_found}
 use Rattle.drive.specs.declared.answer.Answer.{Answer}
 use Rattle.drive.specs.declared.drive.Drive.{Drive}
-use Rattle.drive.specs.Checks.{plain_fault, first_fault}
+use Rattle.drive.specs.declared.units.KnownDisk.{KnownDisk}
+use Rattle.drive.specs.Checks.{first_fault}
 use Rattle.drive.specs.Erasing.{Erased, Finds, GivesBack, Knows, LeavesErased, Removes, TriesErasing, Unlists, after_look_up, before_look_up, erasable, found_or_fault, less_one, own_erasable, place_emptied}
-use Rattle.drive.specs.Parts.{done_answer, from_fault}
+use Rattle.drive.specs.Answers.{answer_of, done_answer, from_fault}
+use Rattle.drive.specs.Known.{file_count, map_changed, without_file}
 use Rattle.drive.specs.Serves.{Represents, Serving, ServesAlone, view, told_by}
 use Rattle.drive.specs.Units.{any_named, unit_of}
-use Rattle.drive.proofs.Formatting.{answer_of, passed, sixteen}
-use Rattle.drive.proofs.Refusals.{by_fault, refusal_by_fault, no_sector}
-use Rattle.drive.proofs.Steps.{served, turned_down}
+use Rattle.drive.proofs.Formatting.{passed}
+use Rattle.drive.proofs.Refusals.{by_fault, refusal_by_fault}
+use Rattle.drive.proofs.Steps.{refused_by, served}
 
 pub ok_same : {A : Type 0} {x y : A} → ◌≡◌ {A = Result A Fault} (Ok x) (Ok y) → x ≡ y
 ok_same e = cc
 
 pub never : {A : Type 0} {P : Type 0} {x : A} {f : Fault} → ◌≡◌ {A = Result A Fault} (Err f) (Ok x) → P
-never e = let z : ◌≡◌ {A = ℕ} 0 1 = cc in absurd (omega arith)
+never e = absurd cc
 
 -- ---- the sectors given back
 
@@ -128,7 +129,7 @@ first_passed i door n e =
 
 -- a look-up on the disk of d, and the refusals after it
 module _ {D S : Type 0} (r : Reading D) (n : List ℕ) (d : Drive D S) (device : D) (same : r.medium device ≡ r.medium d.device)
-    (first : Ok tt ≡ first_fault (before_look_up d.state.initialized (r.medium d.device).door n)) (lookup : Result Lookup Fault)
+    (first : Ok tt ≡ first_fault (before_look_up (is_some d.state.disk) (r.medium d.device).door n)) (lookup : Result Lookup Fault)
     (looks : (l : Layout) → LaidOut l (r.medium d.device).sectors → (r.medium d.device).door ≡ false → lookup ≡ Ok (lookup_of n l.places)) where
   abbrev looked : Drive D S
   looked = record { device = device; allocator = d.allocator; state = d.state }
@@ -140,41 +141,30 @@ module _ {D S : Type 0} (r : Reading D) (n : List ℕ) (d : Drive D S) (device :
   abbrev after_found : Result Lookup Fault → Result Located Fault
   after_found y = next y (λ z. next (found_or_fault z.file) (last_refusal (r.medium device).tab))
 
-  finds_by : (x : Result Located Fault) → (length d.state.units ≡ 16 → x ≡ after_found lookup) → Finds r n d x looked
+  finds_by : (x : Result Located Fault) → x ≡ after_found lookup → Finds r n d x looked
   finds_by x is =
       record {
         same = record { medium = same; allocator = refl; state = refl };
-        found = λ sixteen l laid.
-            let on = first_passed d.state.initialized (r.medium d.device).door n first in
-            is sixteen
+        found = λ l laid.
+            let on = first_passed (is_some d.state.disk) (r.medium d.device).door n first in
+            is
             ∙ (ap after_found (looks l (laid on.0) on.1)
             ∙ (ap (λ (m : Medium). next (found_or_fault (located n 0 l.places)) (last_refusal m.tab)) same
             ∙ ap (λ y. next y (λ _. next (found_or_fault (located n 0 l.places)) (last_refusal (r.medium d.device).tab))) first));
       }
 
   pub finds_unread : (x : Result Located Fault) (f : Fault) → x ≡ Err f → lookup ≡ Err f → Finds r n d x looked
-  finds_unread x f is was = finds_by x (λ _. is ∙ ap after_found (sym was))
+  finds_unread x f is was = finds_by x (is ∙ ap after_found (sym was))
 
-  module _ (z : Lookup) (was : lookup ≡ Ok z) where
-    by_file : (o : Option Located) → z.file ≡ o → next (found_or_fault o) (last_refusal (r.medium device).tab) ≡ after_found lookup
-    by_file o is = ap (λ y. next (found_or_fault y) (last_refusal (r.medium device).tab)) (sym is) ∙ ap after_found (sym was)
-
-    pub finds_absent : (f : Fault) → z.file ≡ None → f ≡ plain_fault FileNotFound Request → Finds r n d (Err f) looked
-    finds_absent f none is = finds_by (Err f) (λ _. ap Err is ∙ by_file None none)
-
-    pub finds_in_use : (x : Result Located Fault) (y : Located) (f : Fault) → x ≡ Err f → z.file ≡ Some y →
-        (length d.state.units ≡ 16 → Err f ≡ first_fault (after_look_up (any_named n d.state.units) (r.medium device).tab)) → Finds r n d x looked
-    finds_in_use x y f is there refused = finds_by x (λ sixteen. is ∙ (ap (λ w. next w (λ _. Ok y)) (refused sixteen) ∙ by_file (Some y) there))
-
-    pub finds_there : (y : Located) → z.file ≡ Some y →
-        (length d.state.units ≡ 16 → Ok tt ≡ first_fault (after_look_up (any_named n d.state.units) (r.medium device).tab)) → Finds r n d (Ok y) looked
-    finds_there y there unused = finds_by (Ok y) (λ sixteen. ap (λ w. next w (λ _. Ok y)) (unused sixteen) ∙ by_file (Some y) there)
+  -- what the directory gave is y, and what is answered then is x
+  pub finds_then : (z : Lookup) (y x : Result Located Fault) → lookup ≡ Ok z → y ≡ found_or_fault z.file → x ≡ next y (last_refusal (r.medium device).tab) → Finds r n d x looked
+  finds_then z y x was found is = finds_by x (is ∙ (ap (λ w. next w (last_refusal (r.medium device).tab)) found ∙ ap after_found (sym was)))
 
 -- ---- all of it: d before, k after the file was found, e in the end
 
 next_ok : {A B : Type 0} {x : B} (y : Result A Fault) (k : A → Result B Fault) → Ok x ≡ next y k → (z : A) × (y ≡ Ok z) × (Ok x ≡ k z)
 next_ok (Ok z) k e = (z, refl, e)
-next_ok (Err f) k e = let z : ◌≡◌ {A = ℕ} 0 1 = cc in absurd (omega arith)
+next_ok (Err f) k e = absurd cc
 
 record MayErase (on open_door : Bool) (o : Option Located) (tab_on : Bool) (x : Located) : Type 0 where
   initialized : on ≡ true
@@ -201,17 +191,17 @@ may_erase i door n o held tab x e =
 
 module _ {D S : Type 0} (r : Reading D) (a : Allocating S) (n : List ℕ) (d k : Drive D S) where
   pub tries_refused : (y : Result Unit Fault) (f : Fault) → y ≡ Err f → Finds r n d (Err f) k → TriesErasing r a n d y k
-  tries_refused y f is finds sixteen l knows = record {
-    answer = is ∙ ap (λ z. next z (λ _. Ok tt)) (finds.found sixteen l (λ on. (knows on).laid));
+  tries_refused y f is finds l knows = record {
+    answer = is ∙ ap (λ z. next z (λ _. Ok tt)) (finds.found l (λ on. (knows on).laid));
     leaves = subst (λ z. LeavesErased r a n l d z k) (sym is) finds.same;
   }
 
   pub tries_done : (x : Located) (e : Drive D S) (y : Result Unit Fault) → Finds r n d (Ok x) k → Removes r a x k y e → TriesErasing r a n d y e
-  tries_done x e y finds removes sixteen l knows =
+  tries_done x e y finds removes l knows =
       let m = r.medium d.device in
       let same = finds.same in
-      let answer = finds.found sixteen l (λ on. (knows on).laid) in
-      let may = may_erase d.state.initialized m.door n (located n 0 l.places) (any_named n d.state.units) m.tab x answer in
+      let answer = finds.found l (λ on. (knows on).laid) in
+      let may = may_erase (is_some d.state.disk) m.door n (located n 0 l.places) (any_named n d.state.units) m.tab x answer in
       let known = knows may.initialized in
       let does =
       removes n l
@@ -261,6 +251,17 @@ only_if_on : (on door is_legal here here' held tab : Bool) → (on ≡ true → 
 only_if_on true door is_legal here here' held tab e = ap (λ h. first_fault (erase_checks true door is_legal h held tab)) (e refl)
 only_if_on false door is_legal here here' held tab e = refl
 
+-- ---- what the drive knows once the file is gone
+
+record LosesOne (o : Option KnownDisk) : Type 0 where
+  known : is_some (without_file o) ≡ is_some o
+  saved : map_changed (without_file o) ≡ false
+  fewer : file_count (without_file o) ≡ file_count o - 1
+
+loses_one : (o : Option KnownDisk) → LosesOne o
+loses_one None = record { known = refl; saved = refl; fewer = refl }
+loses_one (Some k) = record { known = refl; saved = refl; fewer = refl }
+
 -- ---- the promise
 
 module _ {D S : Type 0} (r : Reading D) (a : Allocating S) (n : List ℕ) (d e : Drive D S) (buf : List ℕ) (b : Model) (rep : Represents r a b d) where
@@ -277,7 +278,7 @@ module _ {D S : Type 0} (r : Reading D) (a : Allocating S) (n : List ℕ) (d e :
   model_checks = erase_checks b.initialized b.door (legal n) (present b n) (any (has_name n) b.units) b.tab
 
   -- the layout of the drive's disk, by the model
-  known : (l : Layout) → (b.initialized ≡ true → Laid b l (r.medium d.device).sectors × Spares l (a.member d.allocator)) → d.state.initialized ≡ true → Knows r a d l
+  known : (l : Layout) → (b.initialized ≡ true → Laid b l (r.medium d.device).sectors × Spares l (a.member d.allocator)) → is_some d.state.disk ≡ true → Knows r a d l
   known l laid on =
       let is_on = sym rep.tallies.initialized ∙ on in
       let own = laid is_on in
@@ -292,7 +293,7 @@ module _ {D S : Type 0} (r : Reading D) (a : Allocating S) (n : List ℕ) (d e :
       let m = r.medium d.device in
       let v = rep.tallies in
       let found = located n 0 l.places in
-      checks_in_order d.state.initialized m.door (legal n) found (any_named n d.state.units) m.tab
+      checks_in_order (is_some d.state.disk) m.door (legal n) found (any_named n d.state.units) m.tab
       ∙ ((λ i. first_fault (erase_checks (v.initialized i) (v.door i) (legal n) (is_some found) (any (has_name n) (v.units i)) (v.tab i)))
       ∙ only_if_on b.initialized b.door (legal n) (is_some found) (present b n) (any (has_name n) b.units) b.tab (λ on. located_present b l n (laid on).0.follows.matches))
 
@@ -304,20 +305,14 @@ module _ {D S : Type 0} (r : Reading D) (a : Allocating S) (n : List ℕ) (d e :
   answered_as : (y : Result Unit Fault) → TriesErasing r a n d y e → y ≡ first_fault model_checks
   answered_as y does =
       let own = some_layout b.initialized refl in
-      (does (sixteen r a b d rep) own.0 (known own.0 own.1)).answer ∙ same_checks own.0 own.1
-
-  outcome_is : (y : Result Unit Fault) → y ≡ first_fault model_checks → o ≡ by_fault b buf gone y
-  outcome_is y is = refusal_by_fault b buf model_checks gone ∙ ap (by_fault b buf gone) (sym is)
+      (does own.0 (known own.0 own.1)).answer ∙ same_checks own.0 own.1
 
   erase_refused : (f : Fault) (ans : Answer) → TriesErasing r a n d (Err f) e → ans ≡ from_fault f → Serving r a b call d (told_by ans [] buf) e
   erase_refused f ans does is =
-      let err = answered_as (Err f) does in
-      let is_refusal = outcome_is (Err f) err in
       let own = some_layout b.initialized refl in
-      let same = (does (sixteen r a b d rep) own.0 (known own.0 own.1)).leaves in
-      turned_down r a b call d e (told_by ans [] buf) rep (λ i. let z : ◌≡◌ {A = ℕ} 0 1 = cc in absurd (omega arith))
-      (ap told is_refusal ∙ (ap (λ k. told_by (record { code = f.code; length = 0; layer = f.layer; sector = k }) [] buf) (sym (no_sector model_checks f (sym err))) ∙ ap (λ x. told_by x [] buf) (sym is)))
-      (ap (λ x. x.refused) is_refusal) same.medium (λ k. ap (λ s. a.member s k) same.allocator) (ap a.span same.allocator) same.state
+      let same = (does own.0 (known own.0 own.1)).leaves in
+      refused_by r a b call d e rep (λ i. absurd cc) model_checks gone f ans (refusal_by_fault b buf model_checks gone) (sym (answered_as (Err f) does)) is
+      same.medium (λ k. ap (λ s. a.member s k) same.allocator) (ap a.span same.allocator) same.state
 
   -- the model is initialised and has the file, where nothing refuses
   accepted_then : Ok tt ≡ first_fault model_checks → (b.initialized ≡ true) × (present b n ≡ true)
@@ -335,22 +330,23 @@ module _ {D S : Type 0} (r : Reading D) (a : Allocating S) (n : List ℕ) (d e :
   erase_done ans does is =
       let v = rep.tallies in
       let ok = answered_as (Ok tt) does in
-      let done_is : o ≡ gone = outcome_is (Ok tt) ok in
+      let lost = loses_one d.state.disk in
+      let done_is : o ≡ gone = refusal_by_fault b buf model_checks gone ∙ ap (by_fault b buf gone) (sym ok) in
       let there = accepted_then ok in
       let own = v.laid there.0 in
-      let after : Erased r a n own.0 d e = (does (sixteen r a b d rep) own.0 (known own.0 (λ _. (own.1, own.2)))).leaves in
-      served r a b call d e (told_by ans [] buf) rep (λ i. let z : ◌≡◌ {A = ℕ} 0 1 = cc in absurd (omega arith))
+      let after : Erased r a n own.0 d e = (does own.0 (known own.0 (λ _. (own.1, own.2)))).leaves in
+      served r a b call d e (told_by ans [] buf) rep (λ i. absurd cc)
       (ap told done_is ∙ ap (λ x. told_by x [] buf) (sym is))
       (record {
         door = after.door ∙ (v.door ∙ sym (ap (λ x. x.after.door) done_is));
         tab = after.tab ∙ (v.tab ∙ sym (ap (λ x. x.after.tab) done_is));
         units = ap (λ s. map unit_of s.units) after.state ∙ (v.units ∙ sym (ap (λ x. x.after.units) done_is));
-        initialized = ap (λ s. s.initialized) after.state ∙ (v.initialized ∙ sym (ap (λ x. x.after.initialized) done_is));
-        map_changed = ap (λ s. s.changed) after.state ∙ sym (ap (λ x. x.after.changed) done_is);
+        initialized = ap (λ s. is_some s.disk) after.state ∙ (lost.known ∙ (v.initialized ∙ sym (ap (λ x. x.after.initialized) done_is)));
+        map_changed = ap (λ s. map_changed s.disk) after.state ∙ (lost.saved ∙ sym (ap (λ x. x.after.changed) done_is));
         untouched = λ refused. absurd (false≢true (sym (ap (λ x. x.refused) done_is) ∙ refused));
         still_free = λ refused _. absurd (false≢true (sym (ap (λ x. x.refused) done_is) ∙ refused));
         changed = λ _ l laid _.
-            let left : Erased r a n l d e = (does (sixteen r a b d rep) l (known l laid)).leaves in
+            let left : Erased r a n l d e = (does l (known l laid)).leaves in
             record {
               taken = [];
               count = sym (ap (λ x. x.added) done_is);
@@ -359,7 +355,7 @@ module _ {D S : Type 0} (r : Reading D) (a : Allocating S) (n : List ℕ) (d e :
               spares = λ _. left.spares;
             };
       })
-      (ap (λ s. s.files) after.state ∙ (ap (λ k. k - 1) rep.files ∙ (files_left own.0 own.1.follows.matches there.1 ∙ sym (ap (λ x. length x.after.files) done_is))))
+      (ap (λ s. file_count s.disk) after.state ∙ (lost.fewer ∙ (ap (λ k. k - 1) rep.files ∙ (files_left own.0 own.1.follows.matches there.1 ∙ sym (ap (λ x. length x.after.files) done_is)))))
       (λ _. after.span ∙ (rep.span there.0 ∙ sym (ap (λ x. x.after.size) done_is)))
 
 pub erase_promise : {D S : Type 0} (r : Reading D) (a : Allocating S) (n : List ℕ) (d e : Drive D S) (y : Result Unit Fault) (ans : Answer) → TriesErasing r a n d y e → ans ≡ answer_of y → ServesAlone r a (Erase n) d ans [] e

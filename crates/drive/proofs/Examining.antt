@@ -1,5 +1,5 @@
 -- What EXAMINE answers, from what its code does.
-use Rattle.std.proofs.Common.{◌≡◌, ℕ, Bool, true, false, not, [], length, Ok, Err, Result, sym, refl, ap, ◌∙◌, arith}
+use Rattle.std.proofs.Common.{◌≡◌, ℕ, Bool, true, false, not, [], length, Ok, Err, Result, sym, refl, ap, ◌∙◌, subst}
 use Rattle.std.proofs.lemmas.Bool.{not-false}
 use Rattle.device.specs.Codes.{layer_number}
 use Rattle.device.specs.Device.{Medium}
@@ -12,10 +12,11 @@ use Rattle.chains.specs.Survey.{Tells}
 use Rattle.rules.specs.Model.{Model, Outcome, new_model, read_in}
 use Rattle.rules.specs.Runs.{as_reading, examined, told}
 use Rattle.drive.specs.declared.answer.Answer.{Answer}
+use Rattle.drive.specs.Answers.{answer_of}
 use Rattle.drive.specs.Checks.{first_fault, initialize_checks}
 use Rattle.drive.specs.Parts.{Examines, SameFault}
 use Rattle.drive.specs.Serves.{told_by}
-use Rattle.drive.proofs.Formatting.{answer_of, passed}
+use Rattle.drive.proofs.Formatting.{passed}
 use Rattle.drive.proofs.Refusals.{by_fault, refusal_by_fault, no_sector}
 
 module _ (m : Medium) where
@@ -57,10 +58,10 @@ module _ (m : Medium) where
   examined_by x ans does is = ap (λ y. told_by y [] []) is ∙ by x does checks refl
 
 -- what was refused before the disk was read
-pub examines_refused : (m : Medium) (f : Fault) → Err f ≡ first_fault (initialize_checks false m.door (length m.sectors)) → Examines m (Err f)
-examines_refused m f e = record {
-  refused = λ g h. e ∙ h;
-  found = λ h. let z : ◌≡◌ {A = ℕ} 0 1 = cc in absurd (omega arith);
+pub examines_refused : (m : Medium) (x : Result Unit Fault) (f : Fault) → x ≡ Err f → Err f ≡ first_fault (initialize_checks false m.door (length m.sectors)) → Examines m x
+examines_refused m x f is e = record {
+  refused = λ g h. is ∙ (e ∙ h);
+  found = λ h. absurd cc;
 }
 
 -- what else an answer holds does not matter
@@ -87,10 +88,10 @@ module _ (m : Medium) (ok : Ok tt ≡ first_fault (initialize_checks false m.doo
         found = λ _. tells_done (reading m.sectors) s (does.found fit.1 fit.0);
       }
 
-  pub examines_fault : (f : Fault) → DiskRead m (Err f) → Examines m (Err f)
-  examines_fault f does =
+  pub examines_fault : (x : Result Unit Fault) (f : Fault) → x ≡ Err f → DiskRead m (Err f) → Examines m x
+  examines_fault x f is does =
       let fit = readable false m.door (length m.sectors) ok in
       record {
-        refused = λ g h. let z : ◌≡◌ {A = ℕ} 0 1 = cc in absurd (omega arith);
-        found = λ _. tells_fault (reading m.sectors) f (does.found fit.1 fit.0);
+        refused = λ g h. absurd cc;
+        found = λ _. subst (SameFault (reading m.sectors)) (sym is) (tells_fault (reading m.sectors) f (does.found fit.1 fit.0));
       }

@@ -1,13 +1,12 @@
 -- The promise of FORMAT, from what its code does.
-use Rattle.std.proofs.Common.{◌≡◌, ℕ, Bool, true, false, cond, not, ◌&&◌, ltb, leb, List, [], map, length, Ok, Err, Result, sym, refl, ap, ◌∙◌, arith}
-use Rattle.std.proofs.lemmas.List.{length-map}
-use Rattle.std.proofs.lemmas.Bool.{and_parts, false≢true, not-false}
+use Rattle.std.proofs.Common.{◌≡◌, ℕ, Bool, true, false, cond, ◌&&◌, ltb, leb, List, [], map, length, is_some, Ok, Err, Result, sym, refl, ap, ◌∙◌}
+use Rattle.std.proofs.lemmas.Bool.{false≢true}
 use Rattle.device.specs.Device.{Medium}
 use Rattle.device.specs.declared.fault.Fault.{Fault}
 use Rattle.device.specs.declared.reading.ReadingDevice.{Ghosts as Reading}
 use Rattle.freespace.specs.declared.allocator.SectorAllocator.{Ghosts as Allocating}
-use Rattle.chains.specs.Layout.{Disk, formatted, reserved, sized, overwritten, fixed_sectors}
-use Rattle.chains.specs.Formatting.{formatted_disk, formatted_medium}
+use Rattle.chains.specs.Layout.{Disk, formatted, reserved, overwritten, fixed_sectors}
+use Rattle.chains.specs.Formatting.{formatted_disk}
 use Rattle.rules.specs.Model.{Model, Check, Format, any, done, started, some_open}
 use Rattle.rules.specs.Laid.{Spares}
 use Rattle.rules.specs.Runs.{Call, told}
@@ -15,16 +14,13 @@ use Rattle.rules.specs.Served.{outcome}
 use Rattle.drive.specs.declared.answer.Answer.{Answer}
 use Rattle.drive.specs.declared.drive.Drive.{Drive}
 use Rattle.drive.specs.Checks.{first_fault, format_checks}
-use Rattle.drive.specs.Parts.{Formats, done_answer, formatted_state, from_fault, own_checks}
+use Rattle.drive.specs.Answers.{answer_of, done_answer, from_fault}
+use Rattle.drive.specs.Known.{file_count, map_changed}
+use Rattle.drive.specs.Parts.{Formats, own_checks}
 use Rattle.drive.specs.Serves.{Represents, ServesAlone, view, told_by}
-use Rattle.drive.specs.Units.{any_open, is_open, unit_of}
-use Rattle.drive.proofs.Refusals.{by_fault, refusal_by_fault, no_sector}
-use Rattle.drive.proofs.Steps.{served, turned_down}
-
--- what FORMAT answers
-abbrev pub answer_of : Result Unit Fault → Answer
-answer_of (Ok u) = done_answer
-answer_of (Err f) = from_fault f
+use Rattle.drive.specs.Units.{is_open, unit_of}
+use Rattle.drive.proofs.Refusals.{by_fault, refusal_by_fault}
+use Rattle.drive.proofs.Steps.{refused_by, served}
 
 written_over : (id : List ℕ) (ss : Disk) (s : ℕ) → length ss ≡ s → formatted_disk id ss ≡ overwritten (fixed_sectors (formatted id s)) ss
 unfolding formatted_disk
@@ -37,38 +33,8 @@ and_true false y = refl
 
 -- a check that was passed, and those after it
 pub passed : (x : Bool) (f : Fault) (rest : Result Unit Fault) → Ok tt ≡ cond x (Err f) rest → (x ≡ false) × (Ok tt ≡ rest)
-passed true f rest e = let z : ◌≡◌ {A = ℕ} 0 1 = cc in absurd (omega arith)
+passed true f rest e = absurd cc
 passed false f rest e = (refl, e)
-
--- so a disk that FORMAT takes is no larger than an allocator can hold
-few_sectors : (p q t : Bool) (s : ℕ) (id : List ℕ) → Ok tt ≡ first_fault (format_checks p q t s id) → leb s 2464 ≡ true
-few_sectors p q t s id e =
-    let size = (passed (not (sized s)) _ _ (passed t _ _ (passed q _ _ (passed p _ _ e).1).1).1).0 in
-    (and_parts (leb 64 s) (leb s 2464) (not-false (sized s) size)).1
-
--- what the code's steps add up to
-pub formats_done : {D S : Type 0} (r : Reading D) (a : Allocating S) (id : List ℕ) (d e : Drive D S) (size : ℕ) (filled : Bool) →
-    Ok tt ≡ first_fault (own_checks r d id) →
-    r.medium e.device ≡ formatted_medium (r.medium d.device) id →
-    size ≡ length (r.medium d.device).sectors →
-    filled ≡ leb size 2464 →
-    a.span e.allocator ≡ cond filled size (a.span d.allocator) →
-    ((n : ℕ) → a.member e.allocator n ≡ cond filled (leb 36 n && ltb n size) (a.member d.allocator n)) →
-    e.state ≡ formatted_state d.state →
-    Formats r a id d (Ok tt) e
-formats_done r a id d e size filled accepted medium is fits span free state =
-    let m = r.medium d.device in
-    let full : filled ≡ true = fits ∙ (ap (λ s. leb s 2464) is ∙ few_sectors (any_open d.state.units) m.door m.tab (length m.sectors) id accepted) in
-    record {
-      answer = accepted;
-      medium = medium;
-      free = λ n. free n ∙ (ap (λ x. cond x (leb 36 n && ltb n size) (a.member d.allocator n)) full ∙ ap (λ s. leb 36 n && ltb n s) is);
-      span = span ∙ (ap (λ x. cond x size (a.span d.allocator)) full ∙ is);
-      state = state;
-    }
-
-pub sixteen : {D S : Type 0} (r : Reading D) (a : Allocating S) (b : Model) (d : Drive D S) → Represents r a b d → length d.state.units ≡ 16
-sixteen r a b d rep = sym (length-map d.state.units unit_of) ∙ (ap length rep.tallies.units ∙ rep.tallies.orderly.units)
 
 module _ {D S : Type 0} (r : Reading D) (a : Allocating S) (d : Drive D S) (id : List ℕ) where
   abbrev m : Medium
@@ -83,10 +49,7 @@ module _ {D S : Type 0} (r : Reading D) (a : Allocating S) (d : Drive D S) (id :
   same_checks : (b : Model) → Represents r a b d → format_checks (some_open b) b.door b.tab b.size id ≡ checks
   same_checks b rep =
       let v = rep.tallies in
-      sym (same_parts _ _ _ _ _ _ _ _ (ap (any is_open) v.units) v.door v.tab v.size)
-    where
-      same_parts : (p p' q q' t t' : Bool) (s s' : ℕ) → p ≡ p' → q ≡ q' → t ≡ t' → s ≡ s' → format_checks p q t s id ≡ format_checks p' q' t' s' id
-      same_parts p p' q q' t t' s s' e f g h = cc
+      sym (λ i. format_checks (any is_open (v.units i)) (v.door i) (v.tab i) (v.size i) id)
 
   outcome_is : (buf : List ℕ) (b : Model) → Represents r a b d → outcome b (view r a d) (call buf) ≡ by_fault b buf (done (started b []) buf 0) (first_fault checks)
   outcome_is buf b rep =
@@ -95,11 +58,7 @@ module _ {D S : Type 0} (r : Reading D) (a : Allocating S) (d : Drive D S) (id :
 
   refused : (e : Drive D S) (f : Fault) (ans : Answer) → Formats r a id d (Err f) e → ans ≡ from_fault f → ServesAlone r a (Format id) d ans [] e
   refused e f ans does is buf b rep =
-      let err = sym does.answer in
-      let o = outcome_is buf b rep ∙ ap (by_fault b buf (done (started b []) buf 0)) err in
-      turned_down r a b (call buf) d e (told_by ans [] buf) rep (λ i. let z : ◌≡◌ {A = ℕ} 0 1 = cc in absurd (omega arith))
-      (ap told o ∙ (ap (λ n. told_by (record { code = f.code; length = 0; layer = f.layer; sector = n }) [] buf) (sym (no_sector checks f err)) ∙ ap (λ x. told_by x [] buf) (sym is)))
-      (ap (λ x. x.refused) o) does.medium does.free does.span does.state
+      refused_by r a b (call buf) d e rep (λ i. absurd cc) checks (done (started b []) buf 0) f ans (outcome_is buf b rep) (sym does.answer) is does.medium does.free does.span does.state
 
   accepted : (e : Drive D S) (ans : Answer) → Formats r a id d (Ok tt) e → ans ≡ done_answer → ServesAlone r a (Format id) d ans [] e
   accepted e ans does is buf b rep =
@@ -110,21 +69,21 @@ module _ {D S : Type 0} (r : Reading D) (a : Allocating S) (d : Drive D S) (id :
       let o : outcome b (view r a d) (call buf) ≡ done (started b []) buf 0 = outcome_is buf b rep ∙ ap (by_fault b buf (done (started b []) buf 0)) ok in
       let over : (r.medium e.device).sectors ≡ overwritten (fixed_sectors (formatted id b.size)) m.sectors = ap (λ x. x.sectors) medium ∙ written_over id m.sectors b.size v.size in
       let spare : Spares (formatted id b.size) (a.member e.allocator) = λ n. does.free n ∙ (ap (λ s. leb reserved n && ltb n s) v.size ∙ and_true (leb reserved n) (ltb n b.size)) in
-      served r a b (call buf) d e (told_by ans [] buf) rep (λ i. let z : ◌≡◌ {A = ℕ} 0 1 = cc in absurd (omega arith))
+      served r a b (call buf) d e (told_by ans [] buf) rep (λ i. absurd cc)
       (ap told o ∙ ap (λ x. told_by x [] buf) (sym is))
       (record {
         door = ap (λ x. x.door) medium ∙ (v.door ∙ sym (ap (λ x. x.after.door) o));
         tab = ap (λ x. x.tab) medium ∙ (v.tab ∙ sym (ap (λ x. x.after.tab) o));
         units = ap (λ s. map unit_of s.units) state ∙ (v.units ∙ sym (ap (λ x. x.after.units) o));
-        initialized = ap (λ s. s.initialized) state ∙ sym (ap (λ x. x.after.initialized) o);
-        map_changed = ap (λ s. s.changed) state ∙ sym (ap (λ x. x.after.changed) o);
+        initialized = ap (λ s. is_some s.disk) state ∙ sym (ap (λ x. x.after.initialized) o);
+        map_changed = ap (λ s. map_changed s.disk) state ∙ sym (ap (λ x. x.after.changed) o);
         untouched = λ refused. absurd (false≢true (sym (ap (λ x. x.refused) o) ∙ refused));
         still_free = λ refused _. absurd (false≢true (sym (ap (λ x. x.refused) o) ∙ refused));
         changed = λ _ l _ _. record { taken = []; count = sym (ap (λ x. x.added) o); given = record { were_free = tt; distinct = tt }; written = over; spares = λ _. spare };
       })
-      (ap (λ s. s.files) state ∙ sym (ap (λ x. length x.after.files) o))
+      (ap (λ s. file_count s.disk) state ∙ sym (ap (λ x. length x.after.files) o))
       (λ _. does.span ∙ (v.size ∙ sym (ap (λ x. x.after.size) o)))
 
-  pub format_promise : (e : Drive D S) (x : Result Unit Fault) (ans : Answer) → (length d.state.units ≡ 16 → Formats r a id d x e) → ans ≡ answer_of x → ServesAlone r a (Format id) d ans [] e
-  format_promise e (Err f) ans does is buf b rep = refused e f ans (does (sixteen r a b d rep)) is buf b rep
-  format_promise e (Ok u) ans does is buf b rep = accepted e ans (does (sixteen r a b d rep)) is buf b rep
+  pub format_promise : (e : Drive D S) (x : Result Unit Fault) (ans : Answer) → Formats r a id d x e → ans ≡ answer_of x → ServesAlone r a (Format id) d ans [] e
+  format_promise e (Err f) ans does is buf b rep = refused e f ans does is buf b rep
+  format_promise e (Ok u) ans does is buf b rep = accepted e ans does is buf b rep

@@ -1,5 +1,5 @@
 -- The promise of INITIALIZE, from what its code does.
-use Rattle.std.proofs.Common.{◌≡◌, ℕ, suc, Bool, true, false, cond, not, ◌&&◌, ltb, leb, List, [], ◌∷◌, map, length, Some, None, Ok, Err, Option, Result, sym, refl, ap, ◌∙◌, subst, arith}
+use Rattle.std.proofs.Common.{◌≡◌, ℕ, suc, Bool, true, false, cond, not, ◌&&◌, ltb, leb, List, [], ◌∷◌, map, length, is_some, Some, None, Ok, Err, Option, Result, sym, refl, ap, ◌∙◌, subst}
 use Rattle.std.specs.List.{AllByRecursion}
 use Rattle.std.proofs.lemmas.Bool.{false≢true}
 use Rattle.device.specs.Codes.{layer_number}
@@ -22,14 +22,18 @@ use Rattle.rules.proofs.OnlySound.{only}
 use Rattle.rules.proofs.Rearranging.{as_long}
 use Rattle.drive.specs.declared.answer.Answer.{Answer}
 use Rattle.drive.specs.declared.drive.Drive.{Drive}
+use Rattle.drive.specs.declared.units.KnownDisk.{KnownDisk}
+use Rattle.drive.specs.declared.units.State.{State}
+use Rattle.drive.specs.Answers.{answer_of, done_answer, from_fault}
 use Rattle.drive.specs.Checks.{first_fault, initialize_checks}
-use Rattle.drive.specs.Parts.{Initializes, ReadsIn, TakesOver, TurnsAway, done_answer, from_fault, forgotten, own_initialize_checks, started_state, unread_state}
+use Rattle.drive.specs.Known.{file_count, map_changed}
+use Rattle.drive.specs.Parts.{Initializes, ReadsIn, TakesOver, TurnsAway, forgotten, own_initialize_checks, started_state}
 use Rattle.drive.specs.Serves.{Represents, Serving, ServesAlone, view, told_by}
 use Rattle.drive.specs.Units.{any_open, is_open, unit_of}
 use Rattle.drive.proofs.Examining.{readable}
-use Rattle.drive.proofs.Formatting.{answer_of, passed, sixteen}
-use Rattle.drive.proofs.Refusals.{by_fault, refusal_by_fault, no_sector}
-use Rattle.drive.proofs.Steps.{served, turned_down}
+use Rattle.drive.proofs.Formatting.{passed}
+use Rattle.drive.proofs.Refusals.{by_fault, refusal_by_fault}
+use Rattle.drive.proofs.Steps.{refused_by, served, turned_down}
 
 read_same : {A : Type 0} {x y : A} → ◌≡◌ {A = Found A} (read x) (read y) → x ≡ y
 read_same e = cc
@@ -40,13 +44,21 @@ as_many [] = refl
 as_many (None ∷ es) = as_many es
 as_many (Some f ∷ es) = ap suc (as_many es)
 
+-- a drive that knew nothing of its disk forgets nothing
+unknown_forgotten : (s : State) → is_some s.disk ≡ false → forgotten s ≡ s
+unknown_forgotten s off = ap (λ o. record s { disk = o }) (nothing s.disk off)
+  where
+    nothing : (o : Option KnownDisk) → is_some o ≡ false → None ≡ o
+    nothing None e = refl
+    nothing (Some k) e = absurd (false≢true (sym e))
+
 -- what was refused before the disk was read
-pub initializes_refused : {D S : Type 0} (r : Reading D) (a : Allocating S) (d : Drive D S) (f : Fault) → AllByRecursion WellFormed (r.medium d.device).sectors → Err f ≡ first_fault (own_initialize_checks r d) → Initializes r a d (Err f) d
-initializes_refused r a d f whole e = record {
+pub initializes_refused : {D S : Type 0} (r : Reading D) (a : Allocating S) (d : Drive D S) (x : Result Unit Fault) (f : Fault) → AllByRecursion WellFormed (r.medium d.device).sectors → x ≡ Err f → Err f ≡ first_fault (own_initialize_checks r d) → Initializes r a d x d
+initializes_refused r a d x f whole is e = record {
   whole = whole;
   medium = refl;
-  refused = λ g h. (e ∙ h, refl, refl);
-  found = λ h. let z : ◌≡◌ {A = ℕ} 0 1 = cc in absurd (omega arith);
+  refused = λ g h. (is ∙ (e ∙ h), refl, refl);
+  found = λ h. absurd cc;
 }
 
 -- what the code's steps add up to: d before the disk is read, k after, e in the end
@@ -75,7 +87,7 @@ module _ {D S : Type 0} (r : Reading D) (a : Allocating S) (d k e : Drive D S) (
       record {
         whole = whole;
         medium = ap r.medium device ∙ same;
-        refused = λ g h. let z : ◌≡◌ {A = ℕ} 0 1 = cc in absurd (omega arith);
+        refused = λ g h. absurd cc;
         found = λ _. reads_in (reading m.sectors) x (takes (reading m.sectors) (ap sized is ∙ fit.1) (does.found fit.1 fit.0));
       }
 
@@ -93,10 +105,7 @@ module _ {D S : Type 0} (r : Reading D) (a : Allocating S) (d e : Drive D S) (bu
   same_checks : initialize_checks (some_open b) b.door b.size ≡ own_initialize_checks r d
   same_checks =
       let v = rep.tallies in
-      sym (same_parts _ _ _ _ _ _ (ap (any is_open) v.units) v.door v.size)
-    where
-      same_parts : (p p' q q' : Bool) (s s' : ℕ) → p ≡ p' → q ≡ q' → s ≡ s' → initialize_checks p q s ≡ initialize_checks p' q' s'
-      same_parts p p' q q' s s' e f g = cc
+      sym (λ i. initialize_checks (any is_open (v.units i)) (v.door i) (v.size i))
 
   outcome_is : outcome b (view r a d) call ≡ by_fault b buf after_checks (first_fault (own_initialize_checks r d))
   outcome_is =
@@ -110,10 +119,7 @@ module _ {D S : Type 0} (r : Reading D) (a : Allocating S) (d e : Drive D S) (bu
   checked : (f : Fault) (ans : Answer) → ReadsOnlySound m.sectors → first_fault (own_initialize_checks r d) ≡ Err f → ans ≡ from_fault f →
       r.medium e.device ≡ m → e.allocator ≡ d.allocator → e.state ≡ d.state → Serving r a b call d (told_by ans [] buf) e
   checked f ans reads err is medium allocator state =
-      let is_refusal = outcome_is ∙ ap (by_fault b buf after_checks) err in
-      turned_down r a b call d e (told_by ans [] buf) rep (λ _. reads)
-      (ap told is_refusal ∙ (ap (λ n. told_by (record { code = f.code; length = 0; layer = f.layer; sector = n }) [] buf) (sym (no_sector (own_initialize_checks r d) f err)) ∙ ap (λ x. told_by x [] buf) (sym is)))
-      (ap (λ x. x.refused) is_refusal) medium (λ n. ap (λ s. a.member s n) allocator) (ap a.span allocator) state
+      refused_by r a b call d e rep (λ _. reads) (own_initialize_checks r d) after_checks f ans outcome_is err is medium (λ n. ap (λ s. a.member s n) allocator) (ap a.span allocator) state
 
   -- the disk was taken: its layout is l, and the model's files are as many
   taken : (ans : Answer) (l : Layout) (b' : Model) → ReadsOnlySound m.sectors → ans ≡ done_answer → r.medium e.device ≡ m → TakesOver r a d l e →
@@ -129,8 +135,8 @@ module _ {D S : Type 0} (r : Reading D) (a : Allocating S) (d e : Drive D S) (bu
         door = ap (λ x. x.door) medium ∙ (v.door ∙ sym (ap (λ x. x.after.door) done_is ∙ door));
         tab = ap (λ x. x.tab) medium ∙ (v.tab ∙ sym (ap (λ x. x.after.tab) done_is ∙ tab));
         units = ap (λ s. map unit_of s.units) takes.state ∙ (v.units ∙ sym (ap (λ x. x.after.units) done_is ∙ units));
-        initialized = ap (λ s. s.initialized) takes.state ∙ sym (ap (λ x. x.after.initialized) done_is ∙ on);
-        map_changed = ap (λ s. s.changed) takes.state ∙ sym (ap (λ x. x.after.changed) done_is ∙ clean);
+        initialized = ap (λ s. is_some s.disk) takes.state ∙ sym (ap (λ x. x.after.initialized) done_is ∙ on);
+        map_changed = ap (λ s. map_changed s.disk) takes.state ∙ sym (ap (λ x. x.after.changed) done_is ∙ clean);
         untouched = λ _. ap (λ x. x.sectors) medium;
         still_free = λ refused _. absurd (false≢true (sym (ap (λ x. x.refused) done_is) ∙ refused));
         changed = λ _ k laid found.
@@ -146,7 +152,7 @@ module _ {D S : Type 0} (r : Reading D) (a : Allocating S) (d e : Drive D S) (bu
                   ∙ ap (λ (x : Layout). leb reserved n && (ltb n k.size && not (member n (numbers (chains x.places))))) (sym k_is.0));
             };
       })
-      (ap (λ s. s.files) takes.state ∙ (many ∙ sym (ap (λ x. length x.after.files) done_is)))
+      (ap (λ s. file_count s.disk) takes.state ∙ (many ∙ sym (ap (λ x. length x.after.files) done_is)))
       (λ _. takes.span ∙ (v.size ∙ sym (ap (λ x. x.after.size) done_is ∙ size)))
 
   -- a fault in reading: nothing is known of the disk, and nothing was before
@@ -154,7 +160,7 @@ module _ {D S : Type 0} (r : Reading D) (a : Allocating S) (d e : Drive D S) (bu
       b.initialized ≡ false → o ≡ read_in b (faulty c n) buf → Serving r a b call d (told_by ans [] buf) e
   turned_away f c n ans reads is medium away off fault_is =
       let v = rep.tallies in
-      let same : e.state ≡ d.state = away.state ∙ ap (λ i. cond i (unread_state d.state) d.state) (v.initialized ∙ off) in
+      let same : e.state ≡ d.state = away.state ∙ unknown_forgotten d.state (v.initialized ∙ off) in
       let shown : told_by ans [] buf ≡ told (read_in b (faulty c n) buf) = ap (λ x. told_by x [] buf) is ∙ (λ i. record {
         code = away.code i;
         len = 0;
@@ -219,6 +225,6 @@ module _ {D S : Type 0} (r : Reading D) (a : Allocating S) (d e : Drive D S) (bu
         checked f ans reads err (is ∙ ap answer_of same.0) does.medium same.1 same.2
     serving (Ok u) ok = read_then ok b.initialized refl
 
-pub initialize_promise : {D S : Type 0} (r : Reading D) (a : Allocating S) (d e : Drive D S) (x : Result Unit Fault) (ans : Answer) → (length d.state.units ≡ 16 → Initializes r a d x e) → ans ≡ answer_of x → ServesAlone r a Initialize d ans [] e
+pub initialize_promise : {D S : Type 0} (r : Reading D) (a : Allocating S) (d e : Drive D S) (x : Result Unit Fault) (ans : Answer) → Initializes r a d x e → ans ≡ answer_of x → ServesAlone r a Initialize d ans [] e
 initialize_promise r a d e x ans does is buf b rep =
-    serving r a d e buf b rep x ans is (does (sixteen r a b d rep)) (first_fault (own_initialize_checks r d)) refl
+    serving r a d e buf b rep x ans is does (first_fault (own_initialize_checks r d)) refl

@@ -9,7 +9,7 @@ use Rattle.rules.specs.Served.{outcome}
 use Rattle.drive.specs.declared.drive.Drive.{Drive}
 use Rattle.drive.specs.declared.request.Exchange.{Exchange}
 use Rattle.drive.specs.Serves.{model_of, view}
-use Rattle.drive.specs.Exchanges.{call_of, told_of, ServingAll, ServesExchange, ServesNext, ServesAll, ServedTo, SameRequests, RunsIfFresh}
+use Rattle.drive.specs.Exchanges.{call_of, told_of, ServingAll, ServesExchange, ServesAll, ServedTo, SameRequests, RunsIfFresh}
 
 run_more : {b c : Model} {v v' v'' : View} {qs : List Call} {os : List Outcome} {q : Call} {o : Outcome} → Run b v qs os c v' → Step c v' q o v'' → Run b v (qs ++ q ∷ []) (os ++ o ∷ []) o.after v''
 run_more none s = more s none
@@ -50,8 +50,9 @@ pub none_served : {D S : Type 0} (r : Reading D) (a : Allocating S) (xs : List E
 none_served r a xs d = record { left = refl; long = refl; served = λ b rep. record { outcomes = []; answered = refl; last = b; run = none; represents = rep }; requests = refl }
 
 -- one more
-pub served_next : {D S : Type 0} (r : Reading D) (a : Allocating S) (i : ℕ) (ys : List Exchange) (e e' : Drive D S) (z y : Exchange) → i < length ys → ServesExchange r a e (get_or ys i z) y e' → y.request ≡ (get_or ys i z).request → ServesNext r a i ys e (set ys i y) e'
-served_next r a i ys e e' z y within serve same xs d s =
+pub served_next : {D S : Type 0} (r : Reading D) (a : Allocating S) (i : ℕ) (xs : List Exchange) (d : Drive D S) (ys : List Exchange) (e e' : Drive D S) (z y : Exchange) → i < length ys →
+    ServedTo r a i xs d ys e → ServesExchange r a e (get_or ys i z) y e' → y.request ≡ (get_or ys i z).request → ServedTo r a (i + 1) xs d (set ys i y) e'
+served_next r a i xs d ys e e' z y within s serve same =
     let inside : i < length xs = omega (arith, s.long) in
     record {
       left = left_more xs ys i y s.left;
@@ -61,11 +62,9 @@ served_next r a i ys e e' z y within serve same xs d s =
     }
 
 -- all of them
-pub all_served : {D S : Type 0} (r : Reading D) (a : Allocating S) (i : ℕ) (xs : List Exchange) (d : Drive D S) (ys : List Exchange) (e : Drive D S) → length xs ≤ i → ServedTo r a i xs d ys e → ServesAll r a d xs ys e × SameRequests xs ys
+pub all_served : {D S : Type 0} (r : Reading D) (a : Allocating S) (i : ℕ) (xs : List Exchange) (d : Drive D S) (ys : List Exchange) (e : Drive D S) → length xs ≤ i → ServedTo r a i xs d ys e → ServesAll r a d xs ys e
 all_served r a i xs d ys e past s =
-    let whole_xs = take_all i xs past in
-    let whole_ys = take_all i ys (omega (arith, s.long)) in
-    (subst (λ l. ServesAll r a d l ys e) whole_xs (subst (λ l. ServesAll r a d (take i xs) l e) whole_ys s.served), subst (λ l. SameRequests l ys) whole_xs (subst (SameRequests (take i xs)) whole_ys s.requests))
+    subst (λ l. ServesAll r a d l ys e) (take_all i xs past) (subst (λ l. ServesAll r a d (take i xs) l e) (take_all i ys (omega (arith, s.long))) s.served)
 
 -- from a new drive it is a run, whole
 pub run_from_new : {D S : Type 0} (r : Reading D) (a : Allocating S) (d : Drive D S) (xs ys : List Exchange) (e : Drive D S) → ServesAll r a d xs ys e → RunsIfFresh r a d xs ys e

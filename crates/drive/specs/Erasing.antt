@@ -1,5 +1,6 @@
 -- What the code of ERASE does to the parts of a drive.
-use Rattle.std.specs.Prelude.{◌≡◌, ℕ, ◌+◌, ◌-◌, ◌/◌, ◌<◌, Bool, true, false, not, ◌||◌, List, [], ◌∷◌, map, length, Some, None, Ok, Err, Option, Result, ◌==◌, slice_index_or, slice_set}
+use Rattle.std.specs.Prelude.{◌≡◌, ℕ, ◌+◌, ◌/◌, ◌<◌, Bool, true, false, not, ◌||◌, List, [], ◌∷◌, map, is_some, Some, None, Ok, Err, Option, Result, ◌==◌, slice_index_or, slice_set}
+use Rattle.std.specs.Option.{ok_or}
 use Rattle.device.specs.Device.{Medium, wrote}
 use Rattle.device.specs.declared.fault.Code.TheVariants.{AlreadyOpen, BadName, FileNotFound, NotInitialized}
 use Rattle.device.specs.declared.fault.Fault.{Fault}
@@ -16,6 +17,7 @@ use Rattle.rules.specs.Model.{Check, request_check, door_check, tab_check}
 use Rattle.rules.specs.Effects.{with_places, saved, erased}
 use Rattle.rules.specs.Laid.{Spares}
 use Rattle.drive.specs.Checks.{plain_fault, first_fault}
+use Rattle.drive.specs.Known.{without_file}
 use Rattle.drive.specs.Units.{any_named}
 use Rattle.drive.specs.declared.drive.Drive.{Drive}
 use Rattle.drive.specs.declared.units.State.{State}
@@ -30,8 +32,7 @@ abbrev pub after_look_up : Bool → Bool → List Check
 after_look_up held tab = request_check held AlreadyOpen ∷ tab_check tab ∷ []
 
 abbrev pub found_or_fault : Option Located → Result Located Fault
-found_or_fault None = Err (plain_fault FileNotFound Request)
-found_or_fault (Some x) = Ok x
+found_or_fault o = ok_or o (plain_fault FileNotFound Request)
 
 -- the file to erase, or the first refusal, where the directory gives this for the name
 abbrev pub erasable : Bool → Bool → List ℕ → Option Located → Bool → Bool → Result Located Fault
@@ -43,7 +44,7 @@ erasable initialized door n o held tab =
 abbrev pub own_erasable : {D S : Type 0} → Reading D → List ℕ → Drive D S → Layout → Result Located Fault
 own_erasable r n d l =
     let m = r.medium d.device in
-    erasable d.state.initialized m.door n (located n 0 l.places) (any_named n d.state.units) m.tab
+    erasable (is_some d.state.disk) m.door n (located n 0 l.places) (any_named n d.state.units) m.tab
 
 -- nothing is changed
 pub record Untouched {D S : Type 0} (r : Reading D) (d e : Drive D S) : Type 0 where
@@ -54,11 +55,11 @@ pub record Untouched {D S : Type 0} (r : Reading D) (d e : Drive D S) : Type 0 w
 -- looking for the file to erase answers x, whatever layout the disk shows
 pub record Finds {D S : Type 0} (r : Reading D) (n : List ℕ) (d : Drive D S) (x : Result Located Fault) (e : Drive D S) : Type 0 where
   pub same : Untouched r d e
-  pub found : length d.state.units ≡ 16 → (l : Layout) → (d.state.initialized ≡ true → LaidOut l (r.medium d.device).sectors) → x ≡ own_erasable r n d l
+  pub found : (l : Layout) → (is_some d.state.disk ≡ true → LaidOut l (r.medium d.device).sectors) → x ≡ own_erasable r n d l
 
 -- one file less, and the map is up to date
 abbrev pub less_one : State → State
-less_one s = record { initialized = s.initialized; changed = false; files = s.files - 1; units = s.units }
+less_one s = record s { disk = without_file s.disk }
 
 -- the disk shows this layout, and the allocator has the sectors that it leaves free
 pub record Knows {D S : Type 0} (r : Reading D) (a : Allocating S) (d : Drive D S) (l : Layout) : Type 0 where
@@ -110,4 +111,4 @@ pub record Erases {D S : Type 0} (r : Reading D) (a : Allocating S) (n : List �
   pub leaves : LeavesErased r a n l d y e
 
 abbrev pub TriesErasing : {D S : Type 0} → Reading D → Allocating S → List ℕ → Drive D S → Result Unit Fault → Drive D S → Type 0
-TriesErasing r a n d y e = length d.state.units ≡ 16 → (l : Layout) → (d.state.initialized ≡ true → Knows r a d l) → Erases r a n l d y e
+TriesErasing r a n d y e = (l : Layout) → (is_some d.state.disk ≡ true → Knows r a d l) → Erases r a n l d y e

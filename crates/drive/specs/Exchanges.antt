@@ -1,5 +1,5 @@
 -- Exchanges as the rules have them, and what serving one, a list, and a list from a new drive promises.
-use Rattle.std.specs.Prelude.{◌≡◌, ℕ, ◌+◌, List, [], ◌∷◌, map, length, take, drop, vec_items}
+use Rattle.std.specs.Prelude.{◌≡◌, ℕ, List, [], ◌∷◌, map, length, take, drop, vec_items, Some, None, Option}
 use Rattle.device.specs.Codes.{code_number}
 use Rattle.device.specs.declared.fault.Code.TheVariants.{Done}
 use Rattle.device.specs.declared.reading.ReadingDevice.{Ghosts as Reading}
@@ -10,10 +10,9 @@ use Rattle.rules.specs.Runs.{Call, Told, Run, Ran, LeftClosed, SameFiles, new_vi
 use Rattle.drive.specs.declared.answer.Answer.{Answer}
 use Rattle.drive.specs.declared.drive.Drive.{Drive}
 use Rattle.drive.specs.declared.request.Exchange.{Exchange}
-use Rattle.drive.specs.declared.request.Reported.{Reported}
-use Rattle.drive.specs.declared.request.Reported.TheVariants.{Nothing, Usage}
 use Rattle.drive.specs.declared.request.Request.{Request}
 use Rattle.drive.specs.declared.request.Request.TheVariants as request
+use Rattle.drive.specs.declared.request.Usage.{Usage}
 use Rattle.drive.specs.Serves.{Represents, Serving, model_of, told_by, view}
 
 abbrev pub request_of : Request → model.Request
@@ -26,9 +25,9 @@ request_of request.Status = model.Status
 abbrev pub call_of : Exchange → Call
 call_of x = record { request = request_of x.request; buffer = vec_items x.buffer }
 
-abbrev pub numbers_of : Reported → List ℕ
-numbers_of Nothing = []
-numbers_of (Usage u) = u.free ∷ u.used ∷ u.files ∷ []
+abbrev pub numbers_of : Option Usage → List ℕ
+numbers_of None = []
+numbers_of (Some u) = u.free ∷ u.used ∷ u.files ∷ []
 
 -- what an exchange was told, with the buffer that is left
 abbrev pub told_of : Exchange → Told
@@ -39,11 +38,11 @@ abbrev pub ServesExchange : {D S : Type 0} → Reading D → Allocating S → Dr
 ServesExchange r a d x y e = (b : Model) → Represents r a b d → Serving r a b (call_of x) d (told_of y) e
 
 -- the exchange with this answer and this report
-abbrev pub answered : Exchange → Answer → Reported → Exchange
+abbrev pub answered : Exchange → Answer → Option Usage → Exchange
 answered x ans rep = record { request = x.request; buffer = x.buffer; answer = ans; reported = rep }
 
 -- the call that a request asks for, whatever exchange asks for it
-abbrev pub Replies : {D S : Type 0} → Reading D → Allocating S → Request → Drive D S → Answer → Reported → Drive D S → Type 0
+abbrev pub Replies : {D S : Type 0} → Reading D → Allocating S → Request → Drive D S → Answer → Option Usage → Drive D S → Type 0
 Replies r a q d ans rep e = (x : Exchange) → x.request ≡ q → ServesExchange r a d x (answered x ans rep) e
 
 -- a list of calls on a drive that the model b represents: a run, to a model that represents the drive after it
@@ -67,10 +66,6 @@ pub record ServedTo {D S : Type 0} (r : Reading D) (a : Allocating S) (i : ℕ) 
   pub long : length ys ≡ length xs
   pub served : ServesAll r a d (take i xs) (take i ys) e
   pub requests : SameRequests (take i xs) (take i ys)
-
--- one more is served, whatever the first ones were
-abbrev pub ServesNext : {D S : Type 0} → Reading D → Allocating S → ℕ → List Exchange → Drive D S → List Exchange → Drive D S → Type 0
-ServesNext {D} {S} r a i ys e zs f = (xs : List Exchange) (d : Drive D S) → ServedTo r a i xs d ys e → ServedTo r a (i + 1) xs d zs f
 
 -- a new drive over this device and this allocator
 pub record Fresh {D S : Type 0} (r : Reading D) (a : Allocating S) (device : D) (allocator : S) (d : Drive D S) : Type 0 where

@@ -1,4 +1,6 @@
+pub mod Answers
 pub mod Checks
+pub mod Known
 pub mod Units
 pub mod Parts
 pub mod Serves

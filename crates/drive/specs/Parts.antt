@@ -1,10 +1,11 @@
 -- What the code of the calls does to the parts of a drive.
-use Rattle.std.specs.Prelude.{◌≡◌, ℕ, ◌-◌, true, false, cond, not, ◌&&◌, List, length, is_ok, Ok, Err, Result, nat_le, nat_lt}
+use Rattle.std.specs.Prelude.{◌≡◌, ℕ, ◌-◌, false, cond, not, ◌&&◌, List, length, is_ok, Some, None, Ok, Err, Result, nat_le, nat_lt}
 use Rattle.std.specs.List.{AllByRecursion}
+use Rattle.std.specs.Option.{ok_or, option_map}
 use Rattle.device.specs.Codes.{code_number}
 use Rattle.device.specs.Device.{Medium, WellFormed}
-use Rattle.device.specs.declared.fault.Code.TheVariants.{Done, NotInitialized}
-use Rattle.device.specs.declared.fault.Layer.TheVariants.{None, Request, Structure}
+use Rattle.device.specs.declared.fault.Code.TheVariants.{NotInitialized}
+use Rattle.device.specs.declared.fault.Layer.TheVariants.{Request, Structure}
 use Rattle.device.specs.declared.fault.Fault.{Fault}
 use Rattle.device.specs.declared.reading.ReadingDevice.{Ghosts as Reading}
 use Rattle.freespace.specs.declared.allocator.SectorAllocator.{Ghosts as Allocating}
@@ -15,6 +16,7 @@ use Rattle.chains.specs.Reading.{Found, fault, read, reading}
 use Rattle.chains.specs.Sound.{entries}
 use Rattle.chains.specs.Survey.{Tells}
 use Rattle.rules.specs.Model.{Check}
+use Rattle.drive.specs.Answers.{done_answer}
 use Rattle.drive.specs.Checks.{plain_fault, first_fault, format_checks, initialize_checks}
 use Rattle.drive.specs.Units.{any_open}
 use Rattle.drive.specs.declared.answer.Answer.{Answer}
@@ -28,28 +30,17 @@ own_checks r d id =
     let m = r.medium d.device in
     format_checks (any_open d.state.units) m.door m.tab (length m.sectors) id
 
-abbrev pub done_answer : Answer
-done_answer = record { code = Done; length = 0; layer = None; sector = 0xFFFF }
-
--- the answer that passes a fault on
-abbrev pub from_fault : Fault → Answer
-from_fault f = record { code = f.code; length = 0; layer = f.layer; sector = f.sector }
+-- initialised, with so many files and a map that is up to date
+abbrev pub started_state : ℕ → State → State
+started_state n s = record s { disk = Some (record { changed = false; files = n }) }
 
 -- initialised, with no file and a map that is up to date
 abbrev pub formatted_state : State → State
-formatted_state s = record { initialized = true; changed = false; files = 0; units = s.units }
-
--- initialised, with so many files and a map that is up to date
-abbrev pub started_state : ℕ → State → State
-started_state n s = record { initialized = true; changed = false; files = n; units = s.units }
+formatted_state = started_state 0
 
 -- nothing is known of the disk
-abbrev pub unread_state : State → State
-unread_state s = record { initialized = false; changed = false; files = 0; units = s.units }
-
--- no longer initialised, if it was
 abbrev pub forgotten : State → State
-forgotten s = cond s.initialized (unread_state s) s
+forgotten s = record s { disk = None }
 
 -- FORMAT from d to e, refused as x says, with nothing touched then
 pub record Formats {D S : Type 0} (r : Reading D) (a : Allocating S) (id : List ℕ) (d : Drive D S) (x : Result Unit Fault) (e : Drive D S) : Type 0 where
@@ -113,6 +104,6 @@ pub record Sets {D S : Type 0} (r : Reading D) (m : Medium) (d : Drive D S) (x :
 abbrev pub own_usage : {D S : Type 0} → Reading D → Allocating S → Drive D S → Result Usage Fault
 own_usage r a d =
     let free = counted (a.member d.allocator) (a.span d.allocator) in
-    cond d.state.initialized
-    (Ok (record { free = free; used = length (r.medium d.device).sectors - free; files = d.state.files }))
-    (Err (plain_fault NotInitialized Request))
+    ok_or
+    (option_map (λ k. record { free = free; used = length (r.medium d.device).sectors - free; files = k.files }) d.state.disk)
+    (plain_fault NotInitialized Request)

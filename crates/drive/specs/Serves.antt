@@ -1,5 +1,5 @@
 -- What a drive shows, which models represent it, and what serving one call promises.
-use Rattle.std.specs.Prelude.{◌≡◌, ℕ, true, List, map, length}
+use Rattle.std.specs.Prelude.{◌≡◌, ℕ, true, List, map, length, is_some}
 use Rattle.device.specs.declared.reading.ReadingDevice.{Ghosts as Reading}
 use Rattle.device.specs.Codes.{code_number, layer_number}
 use Rattle.device.specs.Device.{Medium}
@@ -9,6 +9,7 @@ use Rattle.rules.specs.Runs.{View, Call, Step, Told, told}
 use Rattle.rules.specs.Served.{Tallies, outcome}
 use Rattle.drive.specs.declared.answer.Answer.{Answer}
 use Rattle.drive.specs.declared.drive.Drive.{Drive}
+use Rattle.drive.specs.Known.{file_count, map_changed}
 use Rattle.drive.specs.Units.{unit_of}
 
 -- what can be seen of a drive, by what its device and its allocator mean
@@ -19,8 +20,8 @@ view r a d = record {
   tab = (r.medium d.device).tab;
   free = a.member d.allocator;
   units = map unit_of d.state.units;
-  initialized = d.state.initialized;
-  changed = d.state.changed;
+  initialized = is_some d.state.disk;
+  changed = map_changed d.state.disk;
 }
 
 -- the model of a new drive over this medium
@@ -32,7 +33,7 @@ pub record Represents {D S : Type 0} (r : Reading D) (a : Allocating S) (b : Mod
   -- door, tab, units and marks are the model's, and the disk is laid out with the model's files
   pub tallies : Tallies b (view r a d)
   -- what the drive keeps beside: how many files there are, and that its allocator is for a disk of this size
-  pub files : d.state.files ≡ length b.files
+  pub files : file_count d.state.disk ≡ length b.files
   pub span : b.initialized ≡ true → a.span d.allocator ≡ b.size
 
 -- what a caller is told: the answer's numbers, what STATUS tells, and the buffer left

@@ -22,7 +22,7 @@ kind_number Append = 3
 
 abbrev pub state_of : SlotState → List ℕ → UnitState
 state_of unit.Closed n = closed
-state_of (unit.Open k c d r) n = holds n (kind_number k) c
+state_of (unit.Open f) n = holds n (kind_number f.kind) f.cursor
 
 abbrev pub unit_of : Slot → UnitState
 unit_of u = state_of u.state (name_bytes u.name)
@@ -44,9 +44,9 @@ kind_from n = cond (n == 0) (Some Input) (cond (n == 1) (Some New) (cond (n == 2
 
 -- the state that a request leads to, or its refusal
 abbrev pub stepped : SlotState → UnitRequest → Result SlotState Fault
-stepped unit.Closed (asked.Open k c d r) = Ok (unit.Open k c d r)
+stepped unit.Closed (asked.Open f) = Ok (unit.Open f)
 stepped unit.Closed asked.Close = Err (plain_fault FileNotOpen Request)
 stepped unit.Closed asked.Rewind = Err (plain_fault FileNotOpen Request)
-stepped (unit.Open k c d r) (asked.Open k' c' d' r') = Err (plain_fault UnitInUse Request)
-stepped (unit.Open k c d r) asked.Close = Ok unit.Closed
-stepped (unit.Open k c d r) asked.Rewind = Ok (unit.Open k 0 d d)
+stepped (unit.Open f) (asked.Open g) = Err (plain_fault UnitInUse Request)
+stepped (unit.Open f) asked.Close = Ok unit.Closed
+stepped (unit.Open f) asked.Rewind = Ok (unit.Open (record f { cursor = 0; current = f.descriptor }))

@@ -2,11 +2,12 @@
 ghost use Rattle.std.specs.Prelude.{◌≡◌};
 ghost use Rattle.device.specs.declared.fault.Code.TheVariants.{Done};
 ghost use Rattle.device.specs.declared.fault.Layer.TheVariants as layer;
+ghost use Rattle.drive.specs.Answers.{answer_of, from_fault};
 
 use device::{Code, Fault, Layer};
 
 // A completion code, how far the work went, and where a fault arose.
-#[derive(Clone, Copy)]
+#[derive(Clone, Copy, Debug, PartialEq, Eq)]
 pub struct Answer {
     pub code: Code,
     pub length: u16,
@@ -39,16 +40,30 @@ impl Answer {
             sector: NO_SECTOR,
         }
     }
+}
 
-    // A fault from below, with its layer and sector as they came.
-    pub(crate) fn from_fault(fault: Fault) -> Answer
-        ensures { result ≡ record { code = fault.code; length = 0; layer = fault.layer; sector = fault.sector } }
-    {
+// A fault from below, with its layer and sector as they came.
+impl From<Fault> for Answer {
+    ghost from_gives = { λ fault answer. answer ≡ from_fault fault };
+
+    fn from(fault: Fault) -> Answer {
         Answer {
             code: fault.code,
             length: 0,
             layer: fault.layer,
             sector: fault.sector,
+        }
+    }
+}
+
+// A call that was done answers 80; one that was not, its fault.
+impl From<Result<(), Fault>> for Answer {
+    ghost from_gives = { λ outcome answer. answer ≡ answer_of outcome };
+
+    fn from(outcome: Result<(), Fault>) -> Answer {
+        match outcome {
+            Ok(()) => Answer::done(0),
+            Err(fault) => fault.into(),
         }
     }
 }

@@ -1,5 +1,5 @@
 // ERASE.
-ghost use Rattle.std.specs.Prelude.{◌≡◌, [], length};
+ghost use Rattle.std.specs.Prelude.{◌≡◌, [], is_some};
 ghost use Rattle.rules.specs.Model.{Erase};
 ghost use Rattle.drive.specs.Checks.{first_fault};
 ghost use Rattle.drive.specs.Erasing.{Finds, GivesBack, Removes, TriesErasing, Unlists, after_look_up, before_look_up};
@@ -18,10 +18,7 @@ impl<D: WritingDevice, A: SectorAllocator> Drive<D, A> {
     pub fn erase(&mut self, name: &[u8]) -> Answer
         ensures { ServesAlone D.ReadingDevice A.SectorAllocator (Erase name.now) self.old result [] self.new }
     {
-        match self.try_erase(name) {
-            Ok(()) => Answer::done(0),
-            Err(fault) => Answer::from_fault(fault),
-        }
+        self.try_erase(name).into()
     }
 
     fn try_erase(&mut self, name: &[u8]) -> Result<(), Fault>
@@ -37,20 +34,16 @@ impl<D: WritingDevice, A: SectorAllocator> Drive<D, A> {
     {
         self.check_erase(name)?;
         let lookup = look_up(&mut self.device, name)?;
-        match lookup.file {
-            None => Err(request_fault(Code::FileNotFound)),
-            Some(file) => {
-                self.check_unused(name)?;
-                Ok(file)
-            }
-        }
+        let file = lookup.file.ok_or(request_fault(Code::FileNotFound))?;
+        self.check_unused(name)?;
+        Ok(file)
     }
 
     // The refusals that need no look at the directory.
     fn check_erase(&self, name: &[u8]) -> Result<(), Fault>
-        ensures { result ≡ first_fault (before_look_up self.now.state.initialized (D.ReadingDevice.medium self.now.device).door name.now) }
+        ensures { result ≡ first_fault (before_look_up (is_some self.now.state.disk) (D.ReadingDevice.medium self.now.device).door name.now) }
     {
-        if !self.state.initialized {
+        if self.state.disk.is_none() {
             return Err(request_fault(Code::NotInitialized));
         }
         self.check_door()?;
@@ -62,7 +55,7 @@ impl<D: WritingDevice, A: SectorAllocator> Drive<D, A> {
 
     // The refusals of a file that is there.
     fn check_unused(&self, name: &[u8]) -> Result<(), Fault>
-        ensures { length self.now.state.units ≡ 16 → result ≡ first_fault (after_look_up (any_named name.now self.now.state.units) (D.ReadingDevice.medium self.now.device).tab) }
+        ensures { result ≡ first_fault (after_look_up (any_named name.now self.now.state.units) (D.ReadingDevice.medium self.now.device).tab) }
     {
         if self.state.some_holds(name) {
             return Err(request_fault(Code::AlreadyOpen));

@@ -20,10 +20,7 @@ pub fn examine<D: ReadingDevice>(device: &mut D) -> Answer
     ensures same { D.ReadingDevice.medium device.new ≡ D.ReadingDevice.medium device.old }
     ensures exact { sized (length (D.ReadingDevice.medium device.old).sectors) ≡ true → TakesSoundDisks (D.ReadingDevice.medium device.old).sectors }
 {
-    match try_examine(device) {
-        Ok(()) => Answer::done(0),
-        Err(fault) => Answer::from_fault(fault),
-    }
+    try_examine(device).into()
 }
 
 fn try_examine<D: ReadingDevice>(device: &mut D) -> Result<(), Fault>
@@ -33,10 +30,8 @@ fn try_examine<D: ReadingDevice>(device: &mut D) -> Result<(), Fault>
 {
     let sectors = device.count();
     check_readable(device, sectors)?;
-    match read_disk(device) {
-        Ok(_) => Ok(()),
-        Err(fault) => Err(fault),
-    }
+    read_disk(device)?;
+    Ok(())
 }
 
 // Refused for an open door, then for a size that no disk has.

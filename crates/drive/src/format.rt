@@ -17,14 +17,11 @@ impl<D: WritingDevice, A: SectorAllocator> Drive<D, A> {
     pub fn format(&mut self, id: &[u8]) -> Answer
         ensures { ServesAlone D.ReadingDevice A.SectorAllocator (Format id.now) self.old result [] self.new }
     {
-        match self.try_format(id) {
-            Ok(()) => Answer::done(0),
-            Err(fault) => Answer::from_fault(fault),
-        }
+        self.try_format(id).into()
     }
 
     fn try_format(&mut self, id: &[u8]) -> Result<(), Fault>
-        ensures { length self.old.state.units ≡ 16 → Formats D.ReadingDevice A.SectorAllocator id.now self.old result self.new }
+        ensures { Formats D.ReadingDevice A.SectorAllocator id.now self.old result self.new }
     {
         self.check_format(id)?;
         let sectors = self.device.count();
@@ -36,7 +33,7 @@ impl<D: WritingDevice, A: SectorAllocator> Drive<D, A> {
 
     // FORMAT's refusals, in their order.
     fn check_format(&self, id: &[u8]) -> Result<(), Fault>
-        ensures { length self.now.state.units ≡ 16 → result ≡ first_fault (own_checks D.ReadingDevice self.now id.now) }
+        ensures { result ≡ first_fault (own_checks D.ReadingDevice self.now id.now) }
     {
         if self.state.some_open() {
             return Err(request_fault(Code::AlreadyOpen));

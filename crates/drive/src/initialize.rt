@@ -22,14 +22,11 @@ impl<D: WritingDevice, A: SectorAllocator> Drive<D, A> {
     pub fn initialize(&mut self) -> Answer
         ensures { ServesAlone D.ReadingDevice A.SectorAllocator Initialize self.old result [] self.new }
     {
-        match self.try_initialize() {
-            Ok(()) => Answer::done(0),
-            Err(fault) => Answer::from_fault(fault),
-        }
+        self.try_initialize().into()
     }
 
     fn try_initialize(&mut self) -> Result<(), Fault>
-        ensures { length self.old.state.units ≡ 16 → Initializes D.ReadingDevice A.SectorAllocator self.old result self.new }
+        ensures { Initializes D.ReadingDevice A.SectorAllocator self.old result self.new }
     {
         let sectors = self.device.count();
         self.check_initialize(sectors)?;
@@ -40,7 +37,7 @@ impl<D: WritingDevice, A: SectorAllocator> Drive<D, A> {
     // INITIALIZE's refusals before the disk is read, in their order.
     fn check_initialize(&self, sectors: u16) -> Result<(), Fault>
         requires { sectors ≡ length (D.ReadingDevice.medium self.now.device).sectors }
-        ensures { length self.now.state.units ≡ 16 → result ≡ first_fault (own_initialize_checks D.ReadingDevice self.now) }
+        ensures { result ≡ first_fault (own_initialize_checks D.ReadingDevice self.now) }
     {
         if self.state.some_open() {
             return Err(request_fault(Code::AlreadyOpen));

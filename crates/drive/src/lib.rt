@@ -19,5 +19,5 @@ pub use answer::Answer;
 pub use drive::Drive;
 pub use examination::examine;
 pub use reopening::reopen;
-pub use request::{Exchange, Reported, Request, Usage};
+pub use request::{Exchange, Request, Usage};
 pub use serve::run;

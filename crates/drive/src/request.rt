@@ -2,7 +2,6 @@
 ghost use Rattle.std.specs.Prelude.{◌≡◌};
 ghost use Rattle.device.specs.declared.fault.Code.TheVariants.{InvalidOperation};
 ghost use Rattle.device.specs.declared.fault.Layer.TheVariants as layer;
-ghost use Rattle.drive.specs.declared.request.Reported.TheVariants.{Nothing};
 
 use crate::answer::Answer;
 use device::{Code, Layer};
@@ -16,39 +15,32 @@ pub enum Request {
 }
 
 // The numbers that STATUS tells: free sectors, all others, files.
-#[derive(Clone, Copy)]
+#[derive(Clone, Copy, Debug, Default, PartialEq, Eq)]
 pub struct Usage {
     pub free: u16,
     pub used: u16,
     pub files: u16,
 }
 
-// What a request tells beside its answer.
-#[derive(Clone, Copy)]
-pub enum Reported {
-    Nothing,
-    Usage(Usage),
-}
-
-// A request with its buffer, and what it was answered: served in place.
+// A request with its buffer, and what it was answered: served in place. Only STATUS reports numbers beside its answer.
 #[derive(Drop)]
 pub struct Exchange {
     pub request: Request,
     pub buffer: Vec<u8>,
     pub answer: Answer,
-    pub reported: Reported,
+    pub reported: Option<Usage>,
 }
 
 impl Exchange {
     // A request that is not served yet: its answer says that nothing was done.
     pub fn new(request: Request, buffer: Vec<u8>) -> Exchange
-        ensures { result ≡ record { request = request; buffer = buffer; answer = record { code = InvalidOperation; length = 0; layer = layer.Request; sector = 0xFFFF }; reported = Nothing } }
+        ensures { result ≡ record { request = request; buffer = buffer; answer = record { code = InvalidOperation; length = 0; layer = layer.Request; sector = 0xFFFF }; reported = None } }
     {
         Exchange {
             request,
             buffer,
             answer: Answer::refused(Code::InvalidOperation, Layer::Request),
-            reported: Reported::Nothing,
+            reported: None,
         }
     }
 }

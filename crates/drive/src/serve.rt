@@ -1,25 +1,25 @@
 // Exchanges served, one and many.
-ghost use Rattle.std.specs.Prelude.{◌≡◌, ◌<◌, length};
-ghost use Rattle.drive.specs.Exchanges.{Replies, ServesExchange, ServesNext, ServesAll, RunsIfFresh, RunsThrough, SameRequests};
+ghost use Rattle.std.specs.Prelude.{◌≡◌};
+ghost use Rattle.drive.specs.Exchanges.{Replies, ServesExchange, ServesAll, RunsIfFresh, RunsThrough, SameRequests};
 
 use crate::answer::Answer;
 use crate::drive::Drive;
-use crate::request::{Exchange, Reported, Request};
+use crate::request::{Exchange, Request, Usage};
 use device::WritingDevice;
 use freespace::SectorAllocator;
 
 impl<D: WritingDevice, A: SectorAllocator> Drive<D, A> {
     // The call that a request asks for.
-    fn reply(&mut self, request: &Request) -> (Answer, Reported)
+    fn reply(&mut self, request: &Request) -> (Answer, Option<Usage>)
         ensures { Replies D.ReadingDevice A.SectorAllocator request.now self.old result.0 result.1 self.new }
     {
         match request {
-            Request::Format { id } => (self.format(id.as_slice()), Reported::Nothing),
-            Request::Door { open } => (self.door(*open), Reported::Nothing),
-            Request::Tab { on } => (self.tab(*on), Reported::Nothing),
+            Request::Format { id } => (self.format(id), None),
+            Request::Door { open } => (self.door(*open), None),
+            Request::Tab { on } => (self.tab(*on), None),
             Request::Status => {
                 let (answer, usage) = self.status();
-                (answer, Reported::Usage(usage))
+                (answer, Some(usage))
             }
         }
     }
@@ -34,22 +34,14 @@ impl<D: WritingDevice, A: SectorAllocator> Drive<D, A> {
         exchange.reported = reported;
     }
 
-    // One more of a list of which i are served.
-    fn serve_next(&mut self, exchanges: &mut [Exchange], i: usize)
-        requires { i < length exchanges.old }
-        ensures { ServesNext D.ReadingDevice A.SectorAllocator i exchanges.old self.old exchanges.new self.new }
-    {
-        self.serve(&mut exchanges[i]);
-    }
-
     // Serves exchanges one after another.
     pub fn serve_all(&mut self, exchanges: &mut [Exchange])
         ensures served { ServesAll D.ReadingDevice A.SectorAllocator self.old exchanges.old exchanges.new self.new }
         ensures requests { SameRequests exchanges.old exchanges.new }
         ensures runs { RunsIfFresh D.ReadingDevice A.SectorAllocator self.old exchanges.old exchanges.new self.new }
     {
-        for i in 0..exchanges.len() {
-            self.serve_next(exchanges, i);
+        for exchange in exchanges.iter_mut() {
+            self.serve(exchange);
         }
     }
 }

@@ -18,14 +18,7 @@ impl<D: WritingDevice, A: SectorAllocator> Drive<D, A> {
     {
         match self.usage() {
             Ok(usage) => (Answer::done(0), usage),
-            Err(fault) => {
-                let none = Usage {
-                    free: 0,
-                    used: 0,
-                    files: 0,
-                };
-                (Answer::from_fault(fault), none)
-            }
+            Err(fault) => (fault.into(), Usage::default()),
         }
     }
 
@@ -33,14 +26,14 @@ impl<D: WritingDevice, A: SectorAllocator> Drive<D, A> {
     fn usage(&self) -> Result<Usage, Fault>
         ensures { result ≡ own_usage D.ReadingDevice A.SectorAllocator self.now }
     {
-        if !self.state.initialized {
+        let Some(disk) = self.state.disk else {
             return Err(request_fault(Code::NotInitialized));
-        }
+        };
         let free = self.allocator.count();
         Ok(Usage {
             free,
             used: self.device.count().saturating_sub(free),
-            files: self.state.files,
+            files: disk.files,
         })
     }
 }

@@ -1,7 +1,9 @@
-// The drive's own state: its marks, the number of its files, and its sixteen units.
-ghost use Rattle.std.specs.Prelude.{◌≡◌, ◌-◌, ◌<◌, true, false, map, length, replicate, slice_index_or, slice_set};
+// The drive's own state: what it knows of its disk, and its sixteen units.
+ghost use Rattle.std.specs.Prelude.{◌≡◌, ◌<◌, false, map, length, replicate, slice_get, slice_set};
+ghost use Rattle.std.specs.Option.{ok_or};
+ghost use Rattle.device.specs.declared.fault.Code.TheVariants.{InvalidOperation};
+ghost use Rattle.device.specs.declared.fault.Layer.TheVariants as layer;
 ghost use Rattle.rules.specs.Model.{closed, has_name};
-ghost use Rattle.drive.specs.declared.units.Unit.{Unit as Slot};
 ghost use Rattle.drive.specs.Checks.{plain_fault};
 ghost use Rattle.drive.specs.Units.{unit_of, is_open, any_open, any_named, kind_from, stepped};
 
@@ -10,7 +12,7 @@ use chains::Name;
 use device::{Code, Fault};
 
 // The ways to open a file.
-#[derive(Clone, Copy)]
+#[derive(Clone, Copy, Debug, PartialEq, Eq)]
 pub enum Kind {
     Input,
     New,
@@ -18,42 +20,42 @@ pub enum Kind {
     Append,
 }
 
-impl Kind {
-    // The kind of this number, if there is one.
-    pub(crate) fn from_number(n: u16) -> Option<Kind>
-        ensures { result ≡ kind_from n }
-    {
+// The kind of this number; any other is an invalid operation.
+impl TryFrom<u16> for Kind {
+    type Error = Fault;
+
+    ghost try_from_gives = { λ n kind. kind ≡ ok_or (kind_from n) (plain_fault InvalidOperation layer.Request) };
+
+    fn try_from(n: u16) -> Result<Kind, Fault> {
         match n {
-            0 => Some(Kind::Input),
-            1 => Some(Kind::New),
-            2 => Some(Kind::Output),
-            3 => Some(Kind::Append),
-            _ => None,
+            0 => Ok(Kind::Input),
+            1 => Ok(Kind::New),
+            2 => Ok(Kind::Output),
+            3 => Ok(Kind::Append),
+            _ => Err(request_fault(Code::InvalidOperation)),
         }
     }
 }
 
-// A unit is closed, or is on record `cursor` of a file, whose sector is `current`; at 0 it is on the descriptor.
-#[derive(Clone, Copy)]
+// A file as a unit has it open: on record `cursor`, whose sector is `current`; at 0 it is on the descriptor.
+#[derive(Clone, Copy, Debug, PartialEq, Eq)]
+pub struct OpenFile {
+    pub(crate) kind: Kind,
+    pub(crate) cursor: u16,
+    pub(crate) descriptor: u16,
+    pub(crate) current: u16,
+}
+
+#[derive(Clone, Copy, Debug, PartialEq, Eq)]
 pub enum UnitState {
     Closed,
-    Open {
-        kind: Kind,
-        cursor: u16,
-        descriptor: u16,
-        current: u16,
-    },
+    Open(OpenFile),
 }
 
 // What a call asks of the unit that it names.
-#[derive(Clone, Copy)]
+#[derive(Clone, Copy, Debug, PartialEq, Eq)]
 pub enum UnitRequest {
-    Open {
-        kind: Kind,
-        cursor: u16,
-        descriptor: u16,
-        current: u16,
-    },
+    Open(OpenFile),
     Close,
     Rewind,
 }
@@ -69,10 +71,7 @@ impl Unit {
     pub(crate) fn is_open(&self) -> bool
         ensures { result ≡ is_open (unit_of self.now) }
     {
-        match self.state {
-            UnitState::Closed => false,
-            UnitState::Open { .. } => true,
-        }
+        matches!(self.state, UnitState::Open(_))
     }
 
     // The state that a request leads to from the one that the unit is in: a closed unit can only be opened, an open one not again.
@@ -80,39 +79,17 @@ impl Unit {
         ensures { result ≡ stepped self.now.state request }
     {
         match (self.state, request) {
-            (
-                UnitState::Closed,
-                UnitRequest::Open {
-                    kind,
-                    cursor,
-                    descriptor,
-                    current,
-                },
-            ) => Ok(UnitState::Open {
-                kind,
-                cursor,
-                descriptor,
-                current,
-            }),
-            (UnitState::Closed, UnitRequest::Close) => Err(request_fault(Code::FileNotOpen)),
-            (UnitState::Closed, UnitRequest::Rewind) => Err(request_fault(Code::FileNotOpen)),
-            (UnitState::Open { .. }, UnitRequest::Open { .. }) => {
-                Err(request_fault(Code::UnitInUse))
+            (UnitState::Closed, UnitRequest::Open(file)) => Ok(UnitState::Open(file)),
+            (UnitState::Closed, UnitRequest::Close | UnitRequest::Rewind) => {
+                Err(request_fault(Code::FileNotOpen))
             }
-            (UnitState::Open { .. }, UnitRequest::Close) => Ok(UnitState::Closed),
-            (
-                UnitState::Open {
-                    kind,
-                    descriptor,
-                    ..
-                },
-                UnitRequest::Rewind,
-            ) => Ok(UnitState::Open {
-                kind,
+            (UnitState::Open(_), UnitRequest::Open(_)) => Err(request_fault(Code::UnitInUse)),
+            (UnitState::Open(_), UnitRequest::Close) => Ok(UnitState::Closed),
+            (UnitState::Open(file), UnitRequest::Rewind) => Ok(UnitState::Open(OpenFile {
                 cursor: 0,
-                descriptor,
-                current: descriptor,
-            }),
+                current: file.descriptor,
+                ..file
+            })),
         }
     }
 
@@ -121,28 +98,34 @@ impl Unit {
     {
         match self.state {
             UnitState::Closed => false,
-            UnitState::Open { .. } => name == self.name.bytes(),
+            UnitState::Open(_) => name == self.name.bytes(),
         }
     }
 }
 
-#[derive(Clone, Copy)]
-pub struct State {
-    pub(crate) initialized: bool,
+// What is known of a disk that was formatted or read.
+#[derive(Clone, Copy, Debug, PartialEq, Eq)]
+pub struct KnownDisk {
     // The map on the disk lags behind: a file or record was added or removed since it was written.
     pub(crate) changed: bool,
     pub(crate) files: u16,
+}
+
+#[derive(Clone, Copy)]
+pub struct State {
+    // A drive that knows its disk is initialised.
+    pub(crate) disk: Option<KnownDisk>,
     pub(crate) units: [Unit; 16],
+    ghost sixteen: { length units ≡ 16 },
 }
 
 impl State {
-    ghost use Rattle.drive.specs.Parts.{forgotten};
+    ghost use Rattle.drive.specs.Erasing.{less_one};
+    ghost use Rattle.drive.specs.Parts.{forgotten, started_state};
 
-    // Not initialised, no file, and every unit closed.
+    // Not initialised, and every unit closed.
     pub(crate) fn new() -> State
-        ensures initialized { result.initialized ≡ false }
-        ensures changed { result.changed ≡ false }
-        ensures files { result.files ≡ 0 }
+        ensures disk { result.disk ≡ None }
         ensures units { map unit_of result.units ≡ replicate 16 closed }
     {
         let unit = Unit {
@@ -150,74 +133,55 @@ impl State {
             name: Name::empty(),
         };
         State {
-            initialized: false,
-            changed: false,
-            files: 0,
+            disk: None,
             units: [unit; 16],
         }
     }
 
     // The disk is new, or was read: it has so many files, and its map is up to date.
     pub(crate) fn start(&mut self, files: u16)
-        ensures initialized { self.new.initialized ≡ true }
-        ensures changed { self.new.changed ≡ false }
-        ensures files { self.new.files ≡ files }
-        ensures units { self.new.units ≡ self.old.units }
+        ensures { self.new ≡ started_state files self.old }
     {
-        self.initialized = true;
-        self.changed = false;
-        self.files = files;
+        self.disk = Some(KnownDisk {
+            changed: false,
+            files,
+        });
     }
 
-    // Nothing is known of the disk any more: if it was initialised, it is not, and has no file.
+    // Nothing is known of the disk any more.
     pub(crate) fn forget(&mut self)
         ensures { self.new ≡ forgotten self.old }
     {
-        if self.initialized {
-            self.initialized = false;
-            self.changed = false;
-            self.files = 0;
-        }
+        self.disk = None;
     }
 
     // A file was erased, and the map was saved with it.
     pub(crate) fn lose_file(&mut self)
-        ensures initialized { self.new.initialized ≡ self.old.initialized }
-        ensures changed { self.new.changed ≡ false }
-        ensures files { self.new.files ≡ self.old.files - 1 }
-        ensures units { self.new.units ≡ self.old.units }
+        ensures { self.new ≡ less_one self.old }
     {
-        self.changed = false;
-        self.files = self.files.saturating_sub(1);
+        if let Some(disk) = &mut self.disk {
+            disk.changed = false;
+            disk.files = disk.files.saturating_sub(1);
+        }
     }
 
     pub(crate) fn some_open(&self) -> bool
-        ensures { length self.now.units ≡ 16 → result ≡ any_open self.now.units }
+        ensures { result ≡ any_open self.now.units }
     {
-        for unit in &self.units {
-            if unit.is_open() {
-                return true;
-            }
-        }
-        false
+        self.units.iter().any(Unit::is_open)
     }
 
     // Whether some unit holds the file of this name.
     pub(crate) fn some_holds(&self, name: &[u8]) -> bool
-        ensures { length self.now.units ≡ 16 → result ≡ any_named name.now self.now.units }
+        ensures { result ≡ any_named name.now self.now.units }
     {
-        for unit in &self.units {
-            if unit.has_name(name) {
-                return true;
-            }
-        }
-        false
+        self.units.iter().any(|unit| unit.has_name(name))
     }
 
     // Unit u as it stands.
     pub(crate) fn unit(&self, u: u16) -> Unit
         requires below { u < 16 }
-        ensures { length self.now.units ≡ 16 → (other : Slot) → slice_index_or self.now.units u other ≡ result }
+        ensures { slice_get self.now.units u ≡ Some result }
     {
         self.units[u as usize]
     }
@@ -225,9 +189,7 @@ impl State {
     // Moves unit u to another state; one that is opened takes the name.
     pub(crate) fn put_unit(&mut self, u: u16, state: UnitState, name: Name)
         requires below { u < 16 }
-        ensures initialized { self.new.initialized ≡ self.old.initialized }
-        ensures changed { self.new.changed ≡ self.old.changed }
-        ensures files { self.new.files ≡ self.old.files }
+        ensures disk { self.new.disk ≡ self.old.disk }
         ensures units { self.new.units ≡ slice_set self.old.units u (record { state = state; name = name }) }
     {
         self.units[u as usize] = Unit { state, name };

@@ -1,6 +1,6 @@
 // The exam: a list of requests, served on a disk image and on other devices.
 use device::{FlatImage, JoinedPair, ReadingDevice, Skewed, place};
-use drive::{Answer, Exchange, Reported, Request, Usage, reopen, run};
+use drive::{Answer, Exchange, Request, Usage, reopen, run};
 use freespace::{BitMap, FreeList, SectorAllocator};
 use report::{
     answer_line, hex_lines, link_line, map_lines, place_line, request_line, same_answers,
@@ -51,7 +51,7 @@ fn print_exchange(rt: &HostRuntime, exchange: &Exchange) -> anyhow::Result<()> {
     let asked = request_line(rt.alloc(), &exchange.request)?;
     println!(rt; "{asked}")?;
     print_answer_below(rt, &exchange.answer)?;
-    if let Reported::Usage(usage) = exchange.reported {
+    if let Some(usage) = exchange.reported {
         print_usage_below(rt, &usage)?;
     }
     Ok(())

@@ -3,7 +3,7 @@
 
 use anyhow::anyhow;
 use device::{FlatImage, ReadingDevice, WritingDevice};
-use drive::{Exchange, Reported, Request, run};
+use drive::{Exchange, Request, run};
 use freespace::{BitMap, SectorAllocator};
 use report::{answer_line, hex_lines, link_line, map_lines, request_line, usage_line};
 use std::alloc::Global;
@@ -52,7 +52,7 @@ fn print_exchange(rt: &HostRuntime, exchange: &Exchange) -> anyhow::Result<()> {
     let answer = answer_line(heap, &exchange.answer)?;
     println!(rt; "{asked}")?;
     println!(rt; "  {answer}")?;
-    if let Reported::Usage(usage) = exchange.reported {
+    if let Some(usage) = exchange.reported {
         let numbers = usage_line(heap, &usage)?;
         println!(rt; "  {numbers}")?;
     }

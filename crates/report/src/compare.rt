@@ -2,7 +2,7 @@
 ghost use Rattle.std.specs.Prelude.{◌≡◌};
 ghost use Rattle.report.specs.Alike.{same_answer, same_answers, same_exchange, same_reported};
 
-use drive::{Answer, Exchange, Reported};
+use drive::{Answer, Exchange, Usage};
 
 fn same_answer(a: &Answer, b: &Answer) -> bool
     ensures { result ≡ same_answer a.now b.now }
@@ -13,16 +13,16 @@ fn same_answer(a: &Answer, b: &Answer) -> bool
         && a.sector == b.sector
 }
 
-fn same_reported(a: &Reported, b: &Reported) -> bool
+fn same_reported(a: &Option<Usage>, b: &Option<Usage>) -> bool
     ensures { result ≡ same_reported a.now b.now }
 {
     match (*a, *b) {
-        (Reported::Nothing, Reported::Nothing) => true,
-        (Reported::Usage(x), Reported::Usage(y)) => {
+        (None, None) => true,
+        (Some(x), Some(y)) => {
             x.free == y.free && x.used == y.used && x.files == y.files
         }
-        (Reported::Nothing, Reported::Usage(_)) => false,
-        (Reported::Usage(_), Reported::Nothing) => false,
+        (None, Some(_)) => false,
+        (Some(_), None) => false,
     }
 }
 

@@ -1,28 +1,29 @@
-use Rattle.std.proofs.Common.{◌≡◌, Err, ap, ◌∙◌}
-use Rattle.std.proofs.lemmas.Result.{err_from_is_err_and}
-use Rattle.drive.proofs.Erasing.{finds_absent, finds_in_use, finds_there, finds_unread}
+use Rattle.std.proofs.Common.{Ok, Err, ap, ◌∙◌}
+use Rattle.std.specs.Option.{ok_or}
+use Rattle.chains.specs.Survey.{next}
+use Rattle.drive.proofs.Erasing.{finds_then, finds_unread}
+use Rattle.drive.proofs.Refusals.{passed_on}
 use Rattle.drive.proofs.drive.Drive.find_erasable.Goals as goal
 
 pub returns-in_err-lookup : goal.returns-in_err-lookup
 returns-in_err-lookup g c =
-    let p = err_from_is_err_and {Q = λ e. e ≡ c.in_err-lookup.field-0.0} c.from_residual-in_err-lookup.result c.from_residual-in_err-lookup.ensures.1 in
     finds_unread g.D.ReadingDevice c.args.name.now c.args.self.now c.look_up.new.device c.look_up.ensures.same c.in_ok-check_erase.ensures
-    c.look_up.result c.look_up.ensures.found _ _ (p.1 ∙ ap Err p.2) c.in_err-lookup.was
+    c.look_up.result c.look_up.ensures.found _ _ (passed_on _ _ c.from_residual-in_err-lookup.ensures.1) c.in_err-lookup.was
 
-pub returns-in_err-check_unused-in-Some : goal.returns-in_err-check_unused-in-Some
-returns-in_err-check_unused-in-Some g c =
-    let p = err_from_is_err_and {Q = λ e. e ≡ c.in_err-check_unused-in-Some.field-0.0} c.from_residual-in_err-check_unused-in-Some.result c.from_residual-in_err-check_unused-in-Some.ensures.1 in
-    finds_in_use g.D.ReadingDevice c.args.name.now c.args.self.now c.look_up.new.device c.look_up.ensures.same c.in_ok-check_erase.ensures
-    c.look_up.result c.look_up.ensures.found c.in_ok-lookup.lookup c.in_ok-lookup.was _ c.in-Some.file _ (p.1 ∙ ap Err p.2) c.in-Some.is
-    c.in_err-check_unused-in-Some.ensures
+pub returns-in_err-file : goal.returns-in_err-file
+returns-in_err-file g c =
+    finds_then g.D.ReadingDevice c.args.name.now c.args.self.now c.look_up.new.device c.look_up.ensures.same c.in_ok-check_erase.ensures
+    c.look_up.result c.look_up.ensures.found c.in_ok-lookup.lookup (Err c.in_err-file.field-0.0) _ c.in_ok-lookup.was (c.in_err-file.ensures.value ∙ ap (ok_or c.in_ok-lookup.lookup.file) c.request_fault.ensures)
+    (passed_on _ _ c.from_residual-in_err-file.ensures.1)
 
-pub returns-in-None : goal.returns-in-None
-returns-in-None g c =
-    finds_absent g.D.ReadingDevice c.args.name.now c.args.self.now c.look_up.new.device c.look_up.ensures.same c.in_ok-check_erase.ensures
-    c.look_up.result c.look_up.ensures.found c.in_ok-lookup.lookup c.in_ok-lookup.was _ c.in-None.is c.request_fault.ensures
+pub returns-in_err-check_unused : goal.returns-in_err-check_unused
+returns-in_err-check_unused g c =
+    finds_then g.D.ReadingDevice c.args.name.now c.args.self.now c.look_up.new.device c.look_up.ensures.same c.in_ok-check_erase.ensures
+    c.look_up.result c.look_up.ensures.found c.in_ok-lookup.lookup (Ok c.in_ok-file.file) _ c.in_ok-lookup.was (c.in_ok-file.ensures.value ∙ ap (ok_or c.in_ok-lookup.lookup.file) c.request_fault.ensures)
+    (passed_on _ _ c.from_residual-in_err-check_unused.ensures.1 ∙ ap (λ w. next w (λ _. Ok c.in_ok-file.file)) c.in_err-check_unused.ensures)
 
-pub returns-in_ok-check_unused-in-Some : goal.returns-in_ok-check_unused-in-Some
-returns-in_ok-check_unused-in-Some g c =
-    finds_there g.D.ReadingDevice c.args.name.now c.args.self.now c.look_up.new.device c.look_up.ensures.same c.in_ok-check_erase.ensures
-    c.look_up.result c.look_up.ensures.found c.in_ok-lookup.lookup c.in_ok-lookup.was c.in-Some.file c.in-Some.is
-    c.in_ok-check_unused-in-Some.ensures
+pub returns : goal.returns
+returns g c =
+    finds_then g.D.ReadingDevice c.args.name.now c.args.self.now c.look_up.new.device c.look_up.ensures.same c.in_ok-check_erase.ensures
+    c.look_up.result c.look_up.ensures.found c.in_ok-lookup.lookup (Ok c.in_ok-file.file) _ c.in_ok-lookup.was (c.in_ok-file.ensures.value ∙ ap (ok_or c.in_ok-lookup.lookup.file) c.request_fault.ensures)
+    (ap (λ w. next w (λ _. Ok c.in_ok-file.file)) c.in_ok-check_unused.ensures)

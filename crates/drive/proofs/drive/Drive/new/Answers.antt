@@ -1,12 +1,5 @@
-use Rattle.std.proofs.Common.{refl}
 use Rattle.drive.proofs.Calls.{fresh_drive}
 use Rattle.drive.proofs.drive.Drive.new.Goals as goal
 
-pub returns : goal.returns
-returns g c =
-    let made = c.new.ensures in
-    record {
-      device = refl;
-      allocator = refl;
-      fresh = fresh_drive g.D.ReadingDevice g.A.SectorAllocator _ made.initialized made.changed made.files made.units;
-    }
+pub returns-clause-fresh : goal.returns-clause-fresh
+returns-clause-fresh g c = fresh_drive g.D.ReadingDevice g.A.SectorAllocator _ c.new.ensures.disk c.new.ensures.units

@@ -1,14 +1,15 @@
 use Rattle.std.proofs.Common.{arith}
-use Rattle.drive.proofs.RunEnds.{all_served, none_served, run_from_new}
+use Rattle.drive.proofs.RunEnds.{all_served, none_served, run_from_new, served_next}
 use Rattle.drive.proofs.drive.Drive.serve_all.Goals as goal
 
-pub loop-i-init : goal.loop-i-init
-loop-i-init g c = none_served g.D.ReadingDevice g.A.SectorAllocator _ _
+pub loop-exchange-init : goal.loop-exchange-init
+loop-exchange-init g c = none_served g.D.ReadingDevice g.A.SectorAllocator _ _
 
-pub loop-i-preserved : goal.loop-i-preserved
-loop-i-preserved g c = c.serve_next.ensures _ _ c.loop-i.invariant
+pub loop-exchange-preserved : goal.loop-exchange-preserved
+loop-exchange-preserved g c =
+    served_next g.D.ReadingDevice g.A.SectorAllocator c.loop-exchange.exchange-index _ _ c.loop-exchange.exchanges _ _ _ _ (omega arith)
+    c.loop-exchange.invariant c.serve.ensures.served c.serve.ensures.request
 
-pub returns : goal.returns
-returns g c =
-    let all = all_served g.D.ReadingDevice g.A.SectorAllocator c.loop-i.i _ _ _ _ (omega arith) c.loop-i.invariant in
-    record { served = all.0; requests = all.1; runs = run_from_new g.D.ReadingDevice g.A.SectorAllocator _ _ _ _ all.0 }
+pub returns-clause-runs : goal.returns-clause-runs
+returns-clause-runs g c =
+    run_from_new g.D.ReadingDevice g.A.SectorAllocator _ _ _ _ (all_served g.D.ReadingDevice g.A.SectorAllocator c.loop-exchange.exchange-index _ _ _ _ (omega arith) c.loop-exchange.invariant)

@@ -1,18 +1,12 @@
-use Rattle.std.proofs.Common.{sym, ◌∙◌, arith}
-use Rattle.std.proofs.lemmas.List.{at_drop_all}
+use Rattle.std.proofs.Common.{rules, tests, ◌∙◌}
+use Rattle.std.proofs.lemmas.Iterator.{YieldsList-from_slice}
+use Rattle.std.proofs.lemmas.Iterator.Search.{any_from_yields_List}
 use Rattle.rules.specs.Model.{has_name}
-use Rattle.drive.specs.Units.{any_named}
-use Rattle.drive.proofs.UnitTable.{shown_from}
+use Rattle.drive.specs.Units.{unit_of}
+use Rattle.drive.proofs.UnitTable.{some_shows}
 use Rattle.drive.proofs.units.State.some_holds.Goals as goal
 
-pub returns-then-has_name : goal.returns-then-has_name
-returns-then-has_name c h =
-    shown_from (has_name c.args.name.now) c.args.self.now.units c.loop-unit.unit-index _ _ (omega arith) c.if-has_name.ensures ∙ c.loop-unit.invariant h
-
-pub loop-unit-preserved : goal.loop-unit-preserved
-loop-unit-preserved c h =
-    shown_from (has_name c.args.name.now) c.args.self.now.units c.loop-unit.unit-index _ _ (omega arith) c.if-has_name.ensures ∙ c.loop-unit.invariant h
-
 pub returns : goal.returns
-returns c h =
-    sym (at_drop_all (any_named c.args.name.now) c.args.self.now.units c.loop-unit.unit-index (omega arith)) ∙ c.loop-unit.invariant h
+returns c =
+    any_from_yields_List (λ u. has_name c.args.name.now (unit_of u)) _ _ _ c.any.ensures.ran (YieldsList-from_slice c.args.self.now.units (cc)) (λ x b q k. search (rules, tests))
+    ∙ some_shows (has_name c.args.name.now) c.args.self.now.units
