@@ -4,7 +4,7 @@ ghost use Rattle.device.specs.declared.fault.Code.TheVariants.{Done};
 ghost use Rattle.device.specs.declared.fault.Layer.TheVariants as layer;
 ghost use Rattle.drive.specs.Answers.{answer_of, from_fault};
 
-use device::{Code, Fault, Layer};
+use device::{Code, Fault, Layer, NO_SECTOR};
 
 // A completion code, how far the work went, and where a fault arose.
 #[derive(Clone, Copy, Debug, PartialEq, Eq)]
@@ -14,9 +14,6 @@ pub struct Answer {
     pub layer: Layer,
     pub sector: u16,
 }
-
-// The sector of an answer that names none.
-pub(crate) const NO_SECTOR: u16 = 0xFFFF;
 
 impl Answer {
     pub(crate) fn done(length: u16) -> Answer

@@ -4,9 +4,8 @@ ghost use Rattle.rules.specs.Model.{door_check, tab_check};
 ghost use Rattle.drive.specs.Checks.{first_fault};
 ghost use Rattle.drive.specs.Exchanges.{Fresh};
 
-use crate::fault::device_fault;
 use crate::units::State;
-use device::{Code, Fault, WritingDevice};
+use device::{Code, Fault, Layer, WritingDevice};
 use freespace::SectorAllocator;
 
 // Holds its device and its allocator by value; `release` hands the device back.
@@ -48,7 +47,7 @@ impl<D: WritingDevice, A: SectorAllocator> Drive<D, A> {
         ensures { result ≡ first_fault (door_check (D.ReadingDevice.medium self.now.device).door ∷ []) }
     {
         if self.device.door_open() {
-            return Err(device_fault(Code::NotReady));
+            return Err(Fault::new(Layer::Device, Code::NotReady));
         }
         Ok(())
     }
@@ -57,7 +56,7 @@ impl<D: WritingDevice, A: SectorAllocator> Drive<D, A> {
         ensures { result ≡ first_fault (tab_check (D.ReadingDevice.medium self.now.device).tab ∷ []) }
     {
         if self.device.tab_on() {
-            return Err(device_fault(Code::Protected));
+            return Err(Fault::new(Layer::Device, Code::Protected));
         }
         Ok(())
     }

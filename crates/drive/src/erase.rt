@@ -8,9 +8,8 @@ ghost use Rattle.drive.specs.Units.{any_named};
 
 use crate::answer::Answer;
 use crate::drive::Drive;
-use crate::fault::request_fault;
 use chains::{Located, clear_entry, free_chain, is_legal_name, look_up, read_descriptor, save_map};
-use device::{Code, Fault, WritingDevice};
+use device::{Code, Fault, Layer, WritingDevice};
 use freespace::SectorAllocator;
 
 impl<D: WritingDevice, A: SectorAllocator> Drive<D, A> {
@@ -34,7 +33,9 @@ impl<D: WritingDevice, A: SectorAllocator> Drive<D, A> {
     {
         self.check_erase(name)?;
         let lookup = look_up(&mut self.device, name)?;
-        let file = lookup.file.ok_or(request_fault(Code::FileNotFound))?;
+        let file = lookup
+            .file
+            .ok_or(Fault::new(Layer::Request, Code::FileNotFound))?;
         self.check_unused(name)?;
         Ok(file)
     }
@@ -44,11 +45,11 @@ impl<D: WritingDevice, A: SectorAllocator> Drive<D, A> {
         ensures { result ≡ first_fault (before_look_up (is_some self.now.state.disk) (D.ReadingDevice.medium self.now.device).door name.now) }
     {
         if self.state.disk.is_none() {
-            return Err(request_fault(Code::NotInitialized));
+            return Err(Fault::new(Layer::Request, Code::NotInitialized));
         }
         self.check_door()?;
         if !is_legal_name(name) {
-            return Err(request_fault(Code::BadName));
+            return Err(Fault::new(Layer::Request, Code::BadName));
         }
         Ok(())
     }
@@ -58,7 +59,7 @@ impl<D: WritingDevice, A: SectorAllocator> Drive<D, A> {
         ensures { result ≡ first_fault (after_look_up (any_named name.now self.now.state.units) (D.ReadingDevice.medium self.now.device).tab) }
     {
         if self.state.some_holds(name) {
-            return Err(request_fault(Code::AlreadyOpen));
+            return Err(Fault::new(Layer::Request, Code::AlreadyOpen));
         }
         self.check_tab()
     }

@@ -10,9 +10,8 @@ ghost use Rattle.drive.specs.Parts.{Examines};
 ghost use Rattle.drive.specs.Serves.{told_by};
 
 use crate::answer::Answer;
-use crate::fault::{device_fault, request_fault};
 use chains::{is_disk_size, read_disk};
-use device::{Code, Fault, ReadingDevice};
+use device::{Code, Fault, Layer, ReadingDevice};
 
 // The answer that a new drive over the same sectors gives to INITIALIZE, from the door on: 80 for the sound disks and no others.
 pub fn examine<D: ReadingDevice>(device: &mut D) -> Answer
@@ -40,10 +39,10 @@ pub(crate) fn check_readable<D: ReadingDevice>(device: &D, sectors: u16) -> Resu
     ensures { result ≡ first_fault (initialize_checks false (D.ReadingDevice.medium device.now).door (length (D.ReadingDevice.medium device.now).sectors)) }
 {
     if device.door_open() {
-        return Err(device_fault(Code::NotReady));
+        return Err(Fault::new(Layer::Device, Code::NotReady));
     }
     if !is_disk_size(sectors) {
-        return Err(request_fault(Code::BadSize));
+        return Err(Fault::new(Layer::Request, Code::BadSize));
     }
     Ok(())
 }

@@ -7,9 +7,8 @@ ghost use Rattle.drive.specs.Serves.{ServesAlone};
 
 use crate::answer::Answer;
 use crate::drive::Drive;
-use crate::fault::request_fault;
 use chains::{RESERVED, format_disk, is_disk_size, is_legal_id};
-use device::{Code, Fault, WritingDevice};
+use device::{Code, Fault, Layer, WritingDevice};
 use freespace::{SectorAllocator, fill_from};
 
 impl<D: WritingDevice, A: SectorAllocator> Drive<D, A> {
@@ -36,15 +35,15 @@ impl<D: WritingDevice, A: SectorAllocator> Drive<D, A> {
         ensures { result ≡ first_fault (own_checks D.ReadingDevice self.now id.now) }
     {
         if self.state.some_open() {
-            return Err(request_fault(Code::AlreadyOpen));
+            return Err(Fault::new(Layer::Request, Code::AlreadyOpen));
         }
         self.check_door()?;
         self.check_tab()?;
         if !is_disk_size(self.device.count()) {
-            return Err(request_fault(Code::BadSize));
+            return Err(Fault::new(Layer::Request, Code::BadSize));
         }
         if !is_legal_id(id) {
-            return Err(request_fault(Code::BadLabel));
+            return Err(Fault::new(Layer::Request, Code::BadLabel));
         }
         Ok(())
     }

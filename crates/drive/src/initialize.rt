@@ -12,9 +12,8 @@ ghost use Rattle.drive.specs.Serves.{ServesAlone};
 use crate::answer::Answer;
 use crate::drive::Drive;
 use crate::examination::check_readable;
-use crate::fault::request_fault;
 use chains::{Survey, read_disk};
-use device::{Code, Fault, WritingDevice};
+use device::{Code, Fault, Layer, WritingDevice};
 use freespace::SectorAllocator;
 
 impl<D: WritingDevice, A: SectorAllocator> Drive<D, A> {
@@ -40,7 +39,7 @@ impl<D: WritingDevice, A: SectorAllocator> Drive<D, A> {
         ensures { result ≡ first_fault (own_initialize_checks D.ReadingDevice self.now) }
     {
         if self.state.some_open() {
-            return Err(request_fault(Code::AlreadyOpen));
+            return Err(Fault::new(Layer::Request, Code::AlreadyOpen));
         }
         check_readable(&self.device, sectors)
     }

@@ -5,7 +5,6 @@ mod answer;
 mod drive;
 mod erase;
 mod examination;
-mod fault;
 mod format;
 mod initialize;
 mod reopening;

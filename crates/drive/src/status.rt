@@ -6,9 +6,8 @@ ghost use Rattle.drive.specs.Serves.{ServesAlone};
 
 use crate::answer::Answer;
 use crate::drive::Drive;
-use crate::fault::request_fault;
 use crate::request::Usage;
-use device::{Code, Fault, WritingDevice};
+use device::{Code, Fault, Layer, WritingDevice};
 use freespace::SectorAllocator;
 
 impl<D: WritingDevice, A: SectorAllocator> Drive<D, A> {
@@ -27,7 +26,7 @@ impl<D: WritingDevice, A: SectorAllocator> Drive<D, A> {
         ensures { result ≡ own_usage D.ReadingDevice A.SectorAllocator self.now }
     {
         let Some(disk) = self.state.disk else {
-            return Err(request_fault(Code::NotInitialized));
+            return Err(Fault::new(Layer::Request, Code::NotInitialized));
         };
         let free = self.allocator.count();
         Ok(Usage {

@@ -7,9 +7,8 @@ ghost use Rattle.rules.specs.Model.{closed, has_name};
 ghost use Rattle.drive.specs.Checks.{plain_fault};
 ghost use Rattle.drive.specs.Units.{unit_of, is_open, any_open, any_named, kind_from, stepped};
 
-use crate::fault::request_fault;
 use chains::Name;
-use device::{Code, Fault};
+use device::{Code, Fault, Layer};
 
 // The ways to open a file.
 #[derive(Clone, Copy, Debug, PartialEq, Eq)]
@@ -32,7 +31,7 @@ impl TryFrom<u16> for Kind {
             1 => Ok(Kind::New),
             2 => Ok(Kind::Output),
             3 => Ok(Kind::Append),
-            _ => Err(request_fault(Code::InvalidOperation)),
+            _ => Err(Fault::new(Layer::Request, Code::InvalidOperation)),
         }
     }
 }
@@ -81,9 +80,12 @@ impl Unit {
         match (self.state, request) {
             (UnitState::Closed, UnitRequest::Open(file)) => Ok(UnitState::Open(file)),
             (UnitState::Closed, UnitRequest::Close | UnitRequest::Rewind) => {
-                Err(request_fault(Code::FileNotOpen))
+                Err(Fault::new(Layer::Request, Code::FileNotOpen))
             }
-            (UnitState::Open(_), UnitRequest::Open(_)) => Err(request_fault(Code::UnitInUse)),
+            (UnitState::Open(_), UnitRequest::Open(_)) => Err(Fault::new(
+                Layer::Request,
+                Code::UnitInUse,
+            )),
             (UnitState::Open(_), UnitRequest::Close) => Ok(UnitState::Closed),
             (UnitState::Open(file), UnitRequest::Rewind) => Ok(UnitState::Open(OpenFile {
                 cursor: 0,
