@@ -3,7 +3,7 @@ ghost use Rattle.device.specs.Codes.{code_number, layer_number};
 ghost use Rattle.device.specs.Device.{device_fault};
 
 // What a request answers: a completion code, and the layer that it comes from.
-#[derive(Clone, Copy)]
+#[derive(Clone, Copy, Debug, PartialEq, Eq)]
 pub enum Code {
     Done,
     InvalidOperation,
@@ -29,7 +29,7 @@ pub enum Code {
     MapWrong,
 }
 
-#[derive(Clone, Copy)]
+#[derive(Clone, Copy, Debug, PartialEq, Eq)]
 pub enum Layer {
     None,
     Device,
@@ -38,7 +38,7 @@ pub enum Layer {
     Request,
 }
 
-#[derive(Clone, Copy)]
+#[derive(Clone, Copy, Debug, PartialEq, Eq)]
 pub struct Fault {
     pub code: Code,
     pub layer: Layer,

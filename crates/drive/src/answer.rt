@@ -6,7 +6,7 @@ ghost use Rattle.device.specs.declared.fault.Layer.TheVariants as layer;
 use device::{Code, Fault, Layer};
 
 // A completion code, how far the work went, and where a fault arose.
-#[derive(Clone, Copy)]
+#[derive(Clone, Copy, Debug, PartialEq, Eq)]
 pub struct Answer {
     pub code: Code,
     pub length: u16,

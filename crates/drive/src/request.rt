@@ -16,7 +16,7 @@ pub enum Request {
 }
 
 // The numbers that STATUS tells: free sectors, all others, files.
-#[derive(Clone, Copy)]
+#[derive(Clone, Copy, Debug, PartialEq, Eq)]
 pub struct Usage {
     pub free: u16,
     pub used: u16,
@@ -24,7 +24,7 @@ pub struct Usage {
 }
 
 // What a request tells beside its answer.
-#[derive(Clone, Copy)]
+#[derive(Clone, Copy, Debug, PartialEq, Eq)]
 pub enum Reported {
     Nothing,
     Usage(Usage),
