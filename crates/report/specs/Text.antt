@@ -69,12 +69,12 @@ hex_text bs = concat (map (hex_line_of bs) (range_with_len 0 ((length bs + 15) /
 abbrev pub map_mark : List ℕ → ℕ → ℕ
 map_mark bs n = cond (slice_index bs (n / 8) / 2 ^ (n % 8) % 2 == 1) 0x23 0x2E
 
--- the first k sectors of a line
-abbrev pub marks : ℕ → List ℕ → ℕ → List ℕ
-marks first bs k = hex_word first ++ codes "  " ++ map (map_mark bs) (range_with_len 0 k)
+-- a mark for each sector
+abbrev pub marks : List ℕ → List ℕ
+marks bs = map (map_mark bs) (range_with_len 0 (8 * length bs))
 
 abbrev pub map_line : ℕ → List ℕ → List ℕ
-map_line first bs = marks first bs (8 * length bs) ++ newline
+map_line first bs = hex_word first ++ codes "  " ++ marks bs ++ newline
 
 -- line k, of the eight bytes from 8 × k, and so of the sectors from 64 × k
 abbrev pub map_line_of : List ℕ → ℕ → List ℕ

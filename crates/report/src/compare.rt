@@ -1,48 +1,18 @@
 // Whether exchanges were answered alike.
 ghost use Rattle.std.specs.Prelude.{◌≡◌};
-ghost use Rattle.report.specs.Alike.{same_answer, same_answers, same_exchange, same_reported};
+ghost use Rattle.report.specs.Alike.{same_answers, same_exchange};
 
-use drive::{Answer, Exchange, Reported};
-
-fn same_answer(a: &Answer, b: &Answer) -> bool
-    ensures { result ≡ same_answer a.now b.now }
-{
-    a.code.number() == b.code.number()
-        && a.length == b.length
-        && a.layer.number() == b.layer.number()
-        && a.sector == b.sector
-}
-
-fn same_reported(a: &Reported, b: &Reported) -> bool
-    ensures { result ≡ same_reported a.now b.now }
-{
-    match (*a, *b) {
-        (Reported::Nothing, Reported::Nothing) => true,
-        (Reported::Usage(x), Reported::Usage(y)) => {
-            x.free == y.free && x.used == y.used && x.files == y.files
-        }
-        (Reported::Nothing, Reported::Usage(_)) => false,
-        (Reported::Usage(_), Reported::Nothing) => false,
-    }
-}
+use drive::Exchange;
 
 fn same_exchange(a: &Exchange, b: &Exchange) -> bool
     ensures { result ≡ same_exchange a.now b.now }
 {
-    same_answer(&a.answer, &b.answer) && same_reported(&a.reported, &b.reported)
+    a.answer == b.answer && a.reported == b.reported
 }
 
 // The same answers and numbers, one by one.
 pub fn same_answers(left: &[Exchange], right: &[Exchange]) -> bool
     ensures { result ≡ same_answers left.now right.now }
 {
-    if left.len() != right.len() {
-        return false;
-    }
-    for i in 0..left.len() {
-        if !same_exchange(&left[i], &right[i]) {
-            return false;
-        }
-    }
-    true
+    left.len() == right.len() && left.iter().zip(right).all(|(a, b)| same_exchange(a, b))
 }

@@ -2,7 +2,6 @@
 #![tactic(auto)]
 
 mod compare;
-mod digits;
 mod dumps;
 mod lines;
 
