@@ -1,8 +1,9 @@
 -- The text of lines, each of one part of a list.
-use Rattle.std.proofs.Common.{◌≡◌, ℕ, suc, ◌+◌, ◌*◌, ◌<◌, List, [], ◌∷◌, ◌++◌, map, length, get_or, take, drop, Option, Some, None, Result, Ok, IfOk, IfSome, IsSomeAnd, String, string_bytes, Bor, refl, sym, ap, subst, ◌∙◌, arith}
+use Rattle.std.proofs.Common.{◌≡◌, ℕ, suc, ◌+◌, ◌*◌, ◌<◌, List, [], ◌∷◌, ◌++◌, map, length, get_or, take, drop, Option, Some, None, Result, Ok, IfOk, IfSome, IsSomeAnd, String, string_bytes, Bor, refl, sym, ap, append-nil, map-id, subst, ◌∙◌, arith}
 use Rattle.std.specs.List.{IsSubsliceAt, concat, flat_map, range_with_len}
 use Rattle.std.specs.Option.{IsSomeRelated, option_map}
 use Rattle.std.proofs.Math.Nat.{mul_comm}
+use Rattle.std.proofs.lemmas.List.FromFn.{map-range_with_len_more}
 use Rattle.std.proofs.lemmas.Grind.{flat_map-append}
 use Rattle.std.proofs.lemmas.Result.{IfOk-at_ok}
 
@@ -13,6 +14,12 @@ pieces f (y ∷ ys) k each =
     let first : string_bytes y ≡ f k = each 0 y (omega arith) ∙ ap f (omega arith) in
     let others = pieces f ys (k + 1) (λ j d h. each (suc j) d (omega arith) ∙ ap f (omega arith)) in
     cc
+
+-- one more part, of number j
+pub parts_more : (f : ℕ → List ℕ) (a k j : ℕ) → a + k ≡ j → flat_map f (range_with_len a (k + 1)) ≡ flat_map f (range_with_len a k) ++ f j
+parts_more f a k j e =
+    let more : range_with_len a (k + 1) ≡ range_with_len a k ++ j ∷ [] = sym (map-id _) ∙ map-range_with_len_more (λ x. x) a k j e ∙ ap (λ xs. xs ++ j ∷ []) (map-id _) in
+    ap (flat_map f) more ∙ flat_map-append f (range_with_len a k) (j ∷ []) ∙ ap (λ l. flat_map f (range_with_len a k) ++ l) (append-nil (f j))
 
 -- a collected text grows by the next line
 pub more_text : {Z : Type 0} (ys : List (String Z)) (v : String Z) (y : String Z) (w : String Z) → string_bytes v ≡ flat_map string_bytes ys → string_bytes w ≡ string_bytes v ++ flat_map string_bytes (y ∷ []) → string_bytes w ≡ flat_map string_bytes (ys ++ y ∷ [])
@@ -47,3 +54,35 @@ module _ {Z E : Type 0} (line : ℕ → List ℕ → List ℕ) (Q : ℕ × Bor (
       let f : ℕ → List ℕ = λ k. line k (take size (drop (size * k) bs)) in
       pieces f ys 0 (λ j d h. at_place makes j (made j) (item j) (part j) (get_or ys j d) (is j d (omega arith)) (call j) (at j) (is_part j) (cut j) ∙ ap f (omega arith))
       ∙ ap (λ m. concat (map f (range_with_len 0 m))) long
+
+-- texts of the elements of xs, one after another
+pieces_of : {X Z : Type 0} (f : X → List ℕ) (xs : List X) (ys : List (String Z)) → length ys ≡ length xs → ((k : ℕ) (d : X) (e : String Z) → k < length xs → string_bytes (get_or ys k e) ≡ f (get_or xs k d)) → flat_map string_bytes ys ≡ flat_map f xs
+pieces_of f [] [] long each = refl
+pieces_of f [] (y ∷ ys) long each = absurd (omega arith)
+pieces_of f (x ∷ xs) [] long each = absurd (omega arith)
+pieces_of f (x ∷ xs) (y ∷ ys) long each =
+    let first : string_bytes y ≡ f x = each 0 x y (omega arith) in
+    let others = pieces_of f xs ys (omega arith) (λ k d e h. each (suc k) d e (omega arith)) in
+    cc
+
+module _ {X Z E : Type 0} (f : X → List ℕ) (Q : Bor X → Result (String Z) E → Type 0) (xs : List X) where
+  abbrev pub Shows : Type 0
+  Shows = (x : Bor X) (y : Result (String Z) E) → Q x y → IfOk y (λ s. string_bytes s ≡ f x.now)
+
+  at_element : Shows → (made : Option (Result (String Z) E)) (item : Option (Bor X)) (x : X) (y : String Z)
+      → IsSomeRelated (λ r y. Ok y ≡ r) made y → IfSome made (λ r. IsSomeAnd item (λ i. Q i r)) → option_map (λ i. i.now) item ≡ Some x
+      → string_bytes y ≡ f x
+  at_element shows None item x y is call at = absurd is
+  at_element shows (Some r) None x y is call at = absurd call
+  at_element shows (Some r) (Some i) x y is call at =
+      let now : i.now ≡ x = cc in
+      IfOk-at_ok (λ s. string_bytes s ≡ f i.now) (sym is) (shows i r call) ∙ ap f now
+
+  pub text_of_elements : (made : ℕ → Option (Result (String Z) E)) (item : ℕ → Option (Bor X)) (ys : List (String Z))
+      → ((k : ℕ) → IfSome (made k) (λ r. IsSomeAnd (item k) (λ i. Q i r)))
+      → ((k : ℕ) (d : X) → k < length xs → option_map (λ i. i.now) (item k) ≡ Some (get_or xs k d))
+      → ((k : ℕ) (e : String Z) → k < length xs → IsSomeRelated (λ r y. Ok y ≡ r) (made k) (get_or ys k e))
+      → length ys ≡ length xs → Shows
+      → flat_map string_bytes ys ≡ flat_map f xs
+  text_of_elements made item ys call at is long shows =
+      pieces_of f xs ys long (λ k d e h. at_element shows (made k) (item k) (get_or xs k d) (get_or ys k e) (is k e h) (call k) (at k d h))

@@ -1,13 +1,19 @@
 -- Every character of what is shown.
 use Rattle.std.specs.Prelude.{ℕ, ◌+◌, ◌*◌, ◌/◌, ◌%◌, ◌^◌, cond, List, [], ◌∷◌, ◌++◌, map, length, take, drop, vec_items, codes, ◌==◌, nat_lt, slice_index}
-use Rattle.std.specs.List.{range_with_len, concat}
+use Rattle.std.specs.List.{range_with_len, concat, flat_map}
 use Rattle.device.specs.Codes.{code_number, layer_number}
 use Rattle.device.specs.declared.sector.Sector.{Sector}
 use Rattle.drive.specs.declared.answer.Answer.{Answer}
+use Rattle.drive.specs.declared.request.Exchange.{Exchange}
+use Rattle.drive.specs.declared.request.Reported.{Reported}
+use Rattle.drive.specs.declared.request.Reported.TheVariants.{Nothing, Usage}
 use Rattle.drive.specs.declared.request.Request.{Request}
 use Rattle.drive.specs.declared.request.Request.TheVariants.{Format, Door, Tab, Status}
-use Rattle.drive.specs.declared.request.Usage.{Usage}
+use Rattle.drive.specs.declared.request.Usage as usage
 use Rattle.report.specs.Digits.{hex_byte, hex_word, base_ten}
+
+abbrev pub newline : List ℕ
+newline = 0x0A ∷ []
 
 abbrev pub numbers_text : ℕ → ℕ → ℕ → ℕ → List ℕ
 numbers_text code len layer sector =
@@ -29,8 +35,20 @@ request_text (Door is_open) = cond is_open (codes "DOOR OPEN") (codes "DOOR CLOS
 request_text (Tab is_on) = cond is_on (codes "TAB ON") (codes "TAB OFF")
 request_text Status = codes "STATUS"
 
-abbrev pub usage_text : Usage → List ℕ
+abbrev pub usage_text : usage.Usage → List ℕ
 usage_text u = concat (codes "FREE=" ∷ base_ten u.free ∷ codes " USED=" ∷ base_ten u.used ∷ codes " FILES=" ∷ base_ten u.files ∷ [])
+
+-- what was reported, on a line below the answer
+abbrev pub reported_text : Reported → List ℕ
+reported_text Nothing = []
+reported_text (Usage u) = concat (codes "  " ∷ usage_text u ∷ newline ∷ [])
+
+-- a request, and below it its answer and what was reported
+abbrev pub exchange_text : Exchange → List ℕ
+exchange_text x = concat (request_text x.request ∷ newline ∷ codes "  " ∷ answer_text x.answer ∷ newline ∷ reported_text x.reported ∷ [])
+
+abbrev pub exchanges_text : List Exchange → List ℕ
+exchanges_text xs = flat_map exchange_text xs
 
 abbrev pub link_text : ℕ → Sector → List ℕ
 link_text n s = concat (codes "SECTOR=" ∷ hex_word n ∷ codes " BACK=" ∷ hex_word s.back ∷ codes " FORWARD=" ∷ hex_word s.forward ∷ [])
@@ -44,9 +62,6 @@ file_text name records = concat (map shown_byte name ∷ codes ":" ∷ base_ten 
 
 abbrev pub size_text : ℕ → List ℕ
 size_text n = concat (codes "S=" ∷ base_ten n ∷ [])
-
-abbrev pub newline : List ℕ
-newline = 0x0A ∷ []
 
 -- a byte with the blank before it
 abbrev pub hex_cell : ℕ → List ℕ

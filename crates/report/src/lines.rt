@@ -2,10 +2,10 @@
 #![tactic(auto, using(crate::proofs::Digits::decimal_base_ten, crate::proofs::Digits::padded_hex_byte, crate::proofs::Digits::padded_hex_word))]
 
 ghost use Rattle.std.specs.Prelude.{◌≡◌, map, IfOk, string_bytes};
-ghost use Rattle.report.specs.Text.{answer_text, file_text, format_text, link_text, place_text, request_text, shown_byte, size_text, usage_text};
+ghost use Rattle.report.specs.Text.{answer_text, exchange_text, exchanges_text, file_text, format_text, link_text, place_text, request_text, shown_byte, size_text, usage_text};
 
 use device::Sector;
-use drive::{Answer, Request, Usage};
+use drive::{Answer, Exchange, Reported, Request, Usage};
 use std::alloc::{AllocError, Global};
 
 pub fn answer_line(heap: Global, answer: &Answer) -> Result<String, AllocError>
@@ -63,6 +63,30 @@ pub fn usage_line(heap: Global, usage: &Usage) -> Result<String, AllocError>
 {
     let Usage { free, used, files } = *usage;
     format!(in heap; "FREE={free} USED={used} FILES={files}")
+}
+
+// A request, and below it its answer and what it reported.
+fn exchange_lines(heap: Global, exchange: &Exchange) -> Result<String, AllocError>
+    ensures { IfOk result (λ s. string_bytes s ≡ exchange_text exchange.now) }
+{
+    let asked = request_line(heap, &exchange.request)?;
+    let answer = answer_line(heap, &exchange.answer)?;
+    match exchange.reported {
+        Reported::Nothing => format!(in heap; "{asked}\n  {answer}\n"),
+        Reported::Usage(usage) => {
+            let usage = usage_line(heap, &usage)?;
+            format!(in heap; "{asked}\n  {answer}\n  {usage}\n")
+        }
+    }
+}
+
+pub fn exchanges_lines(heap: Global, exchanges: &[Exchange]) -> Result<String, AllocError>
+    ensures { IfOk result (λ s. string_bytes s ≡ exchanges_text exchanges.now) }
+{
+    exchanges
+        .iter()
+        .map(|exchange| exchange_lines(heap, exchange))
+        .try_collect(heap)
 }
 
 // The links of the sector that has the number.
