@@ -5,9 +5,9 @@ mod exam;
 mod images;
 
 use crate::exam::exam;
-use crate::images::{examine_images, read_image};
+use crate::images::examine_images;
 use anyhow::anyhow;
-use std::{env, fs};
+use std::env;
 
 const HELP: &str = "usage: exam_devices [IMAGE] [--examine IMAGE...]
 
@@ -25,26 +25,8 @@ Each image after --examine is only read: its size, whether it is sound or its
 first fault, and the files of a sound one, each with the number of its records.
 A sound one is then initialised in a drive, which tells its usage.";
 
-fn exam_in_memory(rt: &HostRuntime) -> anyhow::Result<()> {
-    let empty = vec![in rt.alloc(); 0; 64 * 132]?;
-    let _ = exam(rt, empty)?;
-    Ok(())
-}
-
-fn exam_on_file(rt: &HostRuntime, path: &str) -> anyhow::Result<()> {
-    let formatted = exam(rt, read_image(rt, path)?)?;
-    match fs::write(rt, path, formatted.as_slice()) {
-        Ok(()) => Ok(()),
-        Err(error) => Err(anyhow!(format!(in rt.alloc(); "cannot write {path}: {error}")?)),
-    }
-}
-
 fn words(rt: &HostRuntime) -> anyhow::Result<Vec<String>> {
-    let mut words = Vec::new(rt.alloc());
-    for word in env::args(rt)?.skip(1) {
-        words.push(word)?;
-    }
-    Ok(words)
+    Ok(env::args(rt)?.skip(1).collect(rt.alloc())?)
 }
 
 fn start(rt: &HostRuntime) -> anyhow::Result<()> {
@@ -61,10 +43,7 @@ fn start(rt: &HostRuntime) -> anyhow::Result<()> {
             }
         }
     }
-    match image {
-        None => exam_in_memory(rt)?,
-        Some(path) => exam_on_file(rt, path)?,
-    }
+    exam(rt, image)?;
     match rest {
         [] => Ok(()),
         [option, paths @ ..] if option.as_str() == "--examine" => examine_images(rt, paths),

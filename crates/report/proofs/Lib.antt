@@ -1,3 +1,5 @@
-pub mod BaseTen
+pub mod Ascii
+pub mod Digits
 pub mod Pieces
+pub mod Parts
 pub mod AlikeLaws

@@ -1,4 +1,5 @@
 pub mod Digits
 pub mod Examples
 pub mod Text
+pub mod Disk
 pub mod Alike

@@ -1,13 +1,17 @@
 -- Every character of what is shown.
-use Rattle.std.specs.Prelude.{ℕ, ◌+◌, ◌*◌, ◌/◌, ◌%◌, ◌^◌, cond, List, [], ◌∷◌, ◌++◌, map, length, take, drop, vec_items, codes, ◌==◌, nat_lt, slice_index}
-use Rattle.std.specs.List.{range_with_len, concat}
+use Rattle.std.specs.Prelude.{ℕ, ◌+◌, ◌*◌, ◌/◌, ◌%◌, ◌^◌, cond, List, [], ◌∷◌, ◌++◌, map, length, take, drop, Some, None, Option, vec_items, codes, ◌==◌, nat_lt, slice_index}
+use Rattle.std.specs.List.{range_with_len, concat, flat_map}
 use Rattle.device.specs.Codes.{code_number, layer_number}
 use Rattle.device.specs.declared.sector.Sector.{Sector}
 use Rattle.drive.specs.declared.answer.Answer.{Answer}
+use Rattle.drive.specs.declared.request.Exchange.{Exchange}
 use Rattle.drive.specs.declared.request.Request.{Request}
 use Rattle.drive.specs.declared.request.Request.TheVariants.{Format, Door, Tab, Status}
 use Rattle.drive.specs.declared.request.Usage.{Usage}
 use Rattle.report.specs.Digits.{hex_byte, hex_word, base_ten}
+
+abbrev pub newline : List ℕ
+newline = 0x0A ∷ []
 
 abbrev pub numbers_text : ℕ → ℕ → ℕ → ℕ → List ℕ
 numbers_text code len layer sector =
@@ -32,6 +36,18 @@ request_text Status = codes "STATUS"
 abbrev pub usage_text : Usage → List ℕ
 usage_text u = concat (codes "FREE=" ∷ base_ten u.free ∷ codes " USED=" ∷ base_ten u.used ∷ codes " FILES=" ∷ base_ten u.files ∷ [])
 
+-- what was reported, on a line below the answer
+abbrev pub reported_text : Option Usage → List ℕ
+reported_text None = []
+reported_text (Some u) = concat (codes "  " ∷ usage_text u ∷ newline ∷ [])
+
+-- a request, and below it its answer and what was reported
+abbrev pub exchange_text : Exchange → List ℕ
+exchange_text x = concat (request_text x.request ∷ newline ∷ codes "  " ∷ answer_text x.answer ∷ newline ∷ reported_text x.reported ∷ [])
+
+abbrev pub exchanges_text : List Exchange → List ℕ
+exchanges_text xs = flat_map exchange_text xs
+
 abbrev pub link_text : ℕ → Sector → List ℕ
 link_text n s = concat (codes "SECTOR=" ∷ hex_word n ∷ codes " BACK=" ∷ hex_word s.back ∷ codes " FORWARD=" ∷ hex_word s.forward ∷ [])
 
@@ -44,9 +60,6 @@ file_text name records = concat (map shown_byte name ∷ codes ":" ∷ base_ten 
 
 abbrev pub size_text : ℕ → List ℕ
 size_text n = concat (codes "S=" ∷ base_ten n ∷ [])
-
-abbrev pub newline : List ℕ
-newline = 0x0A ∷ []
 
 -- a byte with the blank before it
 abbrev pub hex_cell : ℕ → List ℕ
@@ -69,12 +82,12 @@ hex_text bs = concat (map (hex_line_of bs) (range_with_len 0 ((length bs + 15) /
 abbrev pub map_mark : List ℕ → ℕ → ℕ
 map_mark bs n = cond (slice_index bs (n / 8) / 2 ^ (n % 8) % 2 == 1) 0x23 0x2E
 
--- the first k sectors of a line
-abbrev pub marks : ℕ → List ℕ → ℕ → List ℕ
-marks first bs k = hex_word first ++ codes "  " ++ map (map_mark bs) (range_with_len 0 k)
+-- a mark for each sector
+abbrev pub marks : List ℕ → List ℕ
+marks bs = map (map_mark bs) (range_with_len 0 (8 * length bs))
 
 abbrev pub map_line : ℕ → List ℕ → List ℕ
-map_line first bs = marks first bs (8 * length bs) ++ newline
+map_line first bs = hex_word first ++ codes "  " ++ marks bs ++ newline
 
 -- line k, of the eight bytes from 8 × k, and so of the sectors from 64 × k
 abbrev pub map_line_of : List ℕ → ℕ → List ℕ

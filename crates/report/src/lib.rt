@@ -2,12 +2,14 @@
 #![tactic(auto)]
 
 mod compare;
-mod digits;
+mod disk;
 mod dumps;
 mod lines;
 
 pub use compare::same_answers;
+pub use disk::disk_lines;
 pub use dumps::{hex_line, hex_lines, map_lines};
 pub use lines::{
-    answer_line, file_line, link_line, place_line, request_line, size_line, usage_line,
+    answer_line, exchanges_lines, file_line, link_line, place_line, request_line, size_line,
+    usage_line,
 };

@@ -1,41 +1,29 @@
 // What a drive was asked and what it answered, each on one line.
-ghost use Rattle.std.specs.Prelude.{◌≡◌, [], ◌∷◌, map, IfOk, string_bytes};
-ghost use Rattle.std.proofs.Math.Utf8.{encode};
-ghost use Rattle.report.specs.Text.{answer_text, file_text, format_text, link_text, numbers_text, place_text, request_text, shown_byte, size_text, usage_text};
+#![tactic(auto, using(crate::proofs::Digits::decimal_base_ten, crate::proofs::Digits::padded_hex_byte, crate::proofs::Digits::padded_hex_word))]
 
-use crate::digits::{BaseTen, HexByte, HexWord};
+ghost use Rattle.std.specs.Prelude.{◌≡◌, map, IfOk, string_bytes};
+ghost use Rattle.report.specs.Text.{answer_text, exchange_text, exchanges_text, file_text, format_text, link_text, place_text, request_text, shown_byte, size_text, usage_text};
+
 use device::Sector;
-use drive::{Answer, Request, Usage};
+use drive::{Answer, Exchange, Request, Usage};
 use std::alloc::{AllocError, Global};
-
-// An answer whose code and layer are given by their numbers.
-fn numbers_line(
-    heap: Global,
-    code: u8,
-    length: u16,
-    layer: u8,
-    sector: u16,
-) -> Result<String, AllocError>
-    ensures { IfOk result (λ s. string_bytes s ≡ numbers_text code length layer sector) }
-{
-    let code = HexByte(code);
-    let length = BaseTen(length);
-    let layer = BaseTen(layer as u16);
-    let sector = HexWord(sector);
-    format!(in heap; "CODE={code} LENGTH={length} LAYER={layer} SECTOR={sector}")
-}
 
 pub fn answer_line(heap: Global, answer: &Answer) -> Result<String, AllocError>
     ensures { IfOk result (λ s. string_bytes s ≡ answer_text answer.now) }
 {
-    let code = u8::from(answer.code);
-    let layer = u8::from(answer.layer);
-    numbers_line(heap, code, answer.length, layer, answer.sector)
+    let Answer {
+        code,
+        length,
+        layer,
+        sector,
+    } = *answer;
+    let (code, layer) = (u8::from(code), u8::from(layer));
+    format!(in heap; "CODE={code:02X} LENGTH={length} LAYER={layer} SECTOR={sector:04X}")
 }
 
 // A byte that no character is printed for is shown as a point.
 fn printable(b: u8) -> char
-    ensures { encode result ≡ shown_byte b ∷ [] }
+    ensures { result ≡ shown_byte b }
 {
     match b {
         0x20..=0x7E => b as char,
@@ -47,20 +35,14 @@ fn printable(b: u8) -> char
 fn shown_text(heap: Global, bytes: &[u8]) -> Result<String, AllocError>
     ensures { IfOk result (λ s. string_bytes s ≡ map shown_byte bytes.now) }
 {
-    let mut text = String::new(heap);
-    for b in bytes {
-        text.push(printable(*b))?;
-    }
-    Ok(text)
+    bytes.iter().map(|b| printable(*b)).collect(heap)
 }
 
 fn format_line(heap: Global, id: &[u8]) -> Result<String, AllocError>
     ensures { IfOk result (λ s. string_bytes s ≡ format_text id.now) }
 {
-    let mut text = String::from_str(heap, "FORMAT ID=")?;
     let shown = shown_text(heap, id)?;
-    text.push_str(shown.as_str())?;
-    Ok(text)
+    format!(in heap; "FORMAT ID={shown}")
 }
 
 pub fn request_line(heap: Global, request: &Request) -> Result<String, AllocError>
@@ -79,29 +61,47 @@ pub fn request_line(heap: Global, request: &Request) -> Result<String, AllocErro
 pub fn usage_line(heap: Global, usage: &Usage) -> Result<String, AllocError>
     ensures { IfOk result (λ s. string_bytes s ≡ usage_text usage.now) }
 {
-    let free = BaseTen(usage.free);
-    let used = BaseTen(usage.used);
-    let files = BaseTen(usage.files);
+    let Usage { free, used, files } = *usage;
     format!(in heap; "FREE={free} USED={used} FILES={files}")
+}
+
+// A request, and below it its answer and what it reported.
+fn exchange_lines(heap: Global, exchange: &Exchange) -> Result<String, AllocError>
+    ensures { IfOk result (λ s. string_bytes s ≡ exchange_text exchange.now) }
+{
+    let asked = request_line(heap, &exchange.request)?;
+    let answer = answer_line(heap, &exchange.answer)?;
+    match exchange.reported {
+        None => format!(in heap; "{asked}\n  {answer}\n"),
+        Some(usage) => {
+            let usage = usage_line(heap, &usage)?;
+            format!(in heap; "{asked}\n  {answer}\n  {usage}\n")
+        }
+    }
+}
+
+pub fn exchanges_lines(heap: Global, exchanges: &[Exchange]) -> Result<String, AllocError>
+    ensures { IfOk result (λ s. string_bytes s ≡ exchanges_text exchanges.now) }
+{
+    exchanges
+        .iter()
+        .map(|exchange| exchange_lines(heap, exchange))
+        .try_collect(heap)
 }
 
 // The links of the sector that has the number.
 pub fn link_line(heap: Global, number: u16, sector: &Sector) -> Result<String, AllocError>
     ensures { IfOk result (λ s. string_bytes s ≡ link_text number sector.now) }
 {
-    let number = HexWord(number);
-    let back = HexWord(sector.back);
-    let forward = HexWord(sector.forward);
-    format!(in heap; "SECTOR={number} BACK={back} FORWARD={forward}")
+    let (back, forward) = (sector.back, sector.forward);
+    format!(in heap; "SECTOR={number:04X} BACK={back:04X} FORWARD={forward:04X}")
 }
 
 // Where a sector lies on a device below.
 pub fn place_line(heap: Global, number: u16, place: u16) -> Result<String, AllocError>
     ensures { IfOk result (λ s. string_bytes s ≡ place_text number place) }
 {
-    let number = HexWord(number);
-    let place = HexWord(place);
-    format!(in heap; "SECTOR={number} PLACE={place}")
+    format!(in heap; "SECTOR={number:04X} PLACE={place:04X}")
 }
 
 // A file by its name and the number of its records.
@@ -109,7 +109,6 @@ pub fn file_line(heap: Global, name: &[u8], records: u16) -> Result<String, Allo
     ensures { IfOk result (λ s. string_bytes s ≡ file_text name.now records) }
 {
     let name = shown_text(heap, name)?;
-    let records = BaseTen(records);
     format!(in heap; "{name}:{records}")
 }
 
@@ -117,6 +116,5 @@ pub fn file_line(heap: Global, name: &[u8], records: u16) -> Result<String, Allo
 pub fn size_line(heap: Global, sectors: u16) -> Result<String, AllocError>
     ensures { IfOk result (λ s. string_bytes s ≡ size_text sectors) }
 {
-    let sectors = BaseTen(sectors);
     format!(in heap; "S={sectors}")
 }

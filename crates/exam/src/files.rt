@@ -1,0 +1,47 @@
+// The image file that an exam is set on, or a blank image in memory.
+ghost use Rattle.std.specs.Prelude.{◌≡◌, ◌*◌, ◌%◌, IfOk, IsNone, IsOk, length, replicate, vec_items};
+
+use anyhow::anyhow;
+use device::FlatImage;
+use std::fs;
+
+// The bytes of an image file, which are whole frames.
+pub fn read_image(rt: &HostRuntime, path: &str) -> anyhow::Result<Vec<u8>>
+    ensures { IfOk result (λ v. length (vec_items v) % 132 ≡ 0) }
+{
+    let heap = rt.alloc();
+    let bytes = match fs::read(rt, path) {
+        Ok(bytes) => bytes,
+        Err(error) => return Err(anyhow!(format!(in heap; "cannot read {path}: {error}")?)),
+    };
+    if !FlatImage::is_whole(bytes.as_slice()) {
+        return Err(anyhow!(format!(in heap;
+            "{path} is no image: its size is not a multiple of 132 bytes"
+        )?));
+    }
+    Ok(bytes)
+}
+
+// The bytes of the image at the path, or of 64 empty sectors where there is none.
+pub fn image_at(rt: &HostRuntime, path: Option<&str>) -> anyhow::Result<Vec<u8>>
+    ensures whole { IfOk result (λ v. length (vec_items v) % 132 ≡ 0) }
+    ensures empty { IsNone path.entry → IfOk result (λ v. vec_items v ≡ replicate (64 * 132) 0) }
+{
+    match path {
+        None => Ok(vec![in rt.alloc(); 0; 64 * 132]?),
+        Some(path) => read_image(rt, path),
+    }
+}
+
+// Writes the image back to the path; an image in memory is let go.
+pub fn keep_at(rt: &HostRuntime, path: Option<&str>, image: &[u8]) -> anyhow::Result<()>
+    ensures { IsNone path.entry → IsOk result }
+{
+    let Some(path) = path else {
+        return Ok(());
+    };
+    match fs::write(rt, path, image) {
+        Ok(()) => Ok(()),
+        Err(error) => Err(anyhow!(format!(in rt.alloc(); "cannot write {path}: {error}")?)),
+    }
+}
