@@ -1,10 +1,10 @@
 // Formats an exam disk as exam_disk does, reads it again, serves the same list over other devices, and examines disk images.
 #![tactic(auto)]
 
-mod exam;
+mod devices;
 mod images;
 
-use crate::exam::exam;
+use crate::devices::exam;
 use crate::images::examine_images;
 use anyhow::anyhow;
 use std::env;
