@@ -25,12 +25,8 @@ Each image after --examine is only read: its size, whether it is sound or its
 first fault, and the files of a sound one, each with the number of its records.
 A sound one is then initialised in a drive, which tells its usage.";
 
-fn words(rt: &HostRuntime) -> anyhow::Result<Vec<String>> {
-    Ok(env::args(rt)?.skip(1).collect(rt.alloc())?)
-}
-
 fn start(rt: &HostRuntime) -> anyhow::Result<()> {
-    let words = words(rt)?;
+    let words: Vec<String> = env::args(rt)?.skip(1).collect(rt.alloc())?;
     let mut rest = words.as_slice();
     let mut image = None;
     if let [first, others @ ..] = rest {

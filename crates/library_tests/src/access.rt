@@ -1,6 +1,15 @@
-// What tests expect: that a fact holds, and that sectors are read and written with no refusal.
-use device::{ReadingDevice, Sector, WritingDevice};
+// What tests share: blank images, what is read and written, and what is expected of it.
+use device::{Code, Fault, FlatImage, ReadingDevice, Sector, WritingDevice};
+use drive::Usage;
+use std::alloc::Global;
 use std::test::Fail;
+
+// What STATUS tells of a new disk of 64 sectors.
+pub(crate) const OF_NEW_DISK: Usage = Usage {
+    free: 28,
+    used: 36,
+    files: 0,
+};
 
 pub(crate) fn expect(holds: bool, otherwise: &str) -> Result<(), Fail> {
     if holds {
@@ -10,11 +19,12 @@ pub(crate) fn expect(holds: bool, otherwise: &str) -> Result<(), Fail> {
     }
 }
 
+pub(crate) fn blank(heap: Global, sectors: u16) -> Result<FlatImage, Fail> {
+    Ok(FlatImage::new(vec![in heap; 0; 132 * sectors as usize]?))
+}
+
 pub(crate) fn read_sector<D: ReadingDevice>(device: &mut D, n: u16) -> Result<Sector, Fail> {
-    match device.read(n) {
-        Ok(sector) => Ok(sector),
-        Err(_) => Err(Fail::new("a read is refused")),
-    }
+    device.read(n).map_err(|_| Fail::new("a read is refused"))
 }
 
 pub(crate) fn write_sector<D: WritingDevice>(
@@ -22,8 +32,20 @@ pub(crate) fn write_sector<D: WritingDevice>(
     n: u16,
     sector: &Sector,
 ) -> Result<(), Fail> {
-    match device.write(n, sector) {
-        Ok(()) => Ok(()),
-        Err(_) => Err(Fail::new("a write is refused")),
+    device
+        .write(n, sector)
+        .map_err(|_| Fail::new("a write is refused"))
+}
+
+// The number of the code that an access answers.
+pub(crate) fn number<T: Drop>(answer: Result<T, Fault>) -> u8 {
+    match answer {
+        Ok(_) => u8::from(Code::Done),
+        Err(fault) => u8::from(fault.code),
     }
+}
+
+// What a read of sector n and a write of this sector to it answer.
+pub(crate) fn numbers<D: WritingDevice>(device: &mut D, n: u16, sector: &Sector) -> (u8, u8) {
+    (number(device.read(n)), number(device.write(n, sector)))
 }

@@ -1,6 +1,6 @@
 // Free lists, and a device and an allocator of another crate.
-use crate::access::expect;
-use device::{FlatImage, ReadingDevice, Sector, WritingDevice};
+use crate::access::{OF_NEW_DISK, blank};
+use device::{ReadingDevice, Sector, WritingDevice};
 use drive::{Drive, Usage};
 use freespace::{FreeList, SectorAllocator, fill_from};
 use plain::{NumberList, SectorArray};
@@ -18,28 +18,25 @@ fn usage_when_new<D: WritingDevice + Drop, A: SectorAllocator + Drop>(
     usage
 }
 
-fn check_new(usage: Usage) -> Result<(), Fail> {
-    expect(usage.free == 28, "another number is free")?;
-    expect(usage.used == 36, "another number is used")?;
-    expect(usage.files == 0, "there are files")
-}
-
 #[test]
 fn serves_a_flat_image_with_a_free_list(rt: HostRuntime) -> Result<(), Fail> {
-    let bytes = vec![in rt.alloc(); 0; 132 * 64]?;
-    check_new(usage_when_new(FlatImage::new(bytes), FreeList::new()))
+    let usage = usage_when_new(blank(rt.alloc(), 64)?, FreeList::new());
+    assert_eq!(rt; usage, OF_NEW_DISK);
+    Ok(())
 }
 
 #[test]
 fn serves_a_sector_array_with_a_number_list(rt: HostRuntime) -> Result<(), Fail> {
-    let blank = Sector {
+    let empty = Sector {
         bytes: [0; 128],
         back: 0xFFFF,
         forward: 0xFFFF,
     };
-    let sectors = vec![in rt.alloc(); blank; 64]?;
+    let sectors = vec![in rt.alloc(); empty; 64]?;
     let allocator = NumberList::new(rt.alloc())?;
-    check_new(usage_when_new(SectorArray::new(sectors), allocator))
+    let usage = usage_when_new(SectorArray::new(sectors), allocator);
+    assert_eq!(rt; usage, OF_NEW_DISK);
+    Ok(())
 }
 
 #[test]

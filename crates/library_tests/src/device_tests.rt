@@ -1,17 +1,11 @@
 // What a flat image answers, on bytes.
-use device::{Code, Fault, FlatImage, ReadingDevice, Sector, WritingDevice};
+use crate::access::{blank, number, numbers, read_sector};
+use device::{FlatImage, ReadingDevice, Sector, WritingDevice};
 use std::test::Fail;
-
-fn number<T: Drop>(answer: Result<T, Fault>) -> u8 {
-    match answer {
-        Ok(_) => u8::from(Code::Done),
-        Err(fault) => u8::from(fault.code),
-    }
-}
 
 #[test]
 fn no_whole_frame(rt: HostRuntime) -> Result<(), Fail> {
-    let mut none = FlatImage::new(vec![in rt.alloc(); 0u8; 0]?);
+    let mut none = blank(rt.alloc(), 0)?;
     assert_eq!(rt; none.count(), 0);
     assert_eq!(rt; number(none.read(0)), 0xC1);
     let mut short = FlatImage::new(vec![in rt.alloc(); 0u8; 131]?);
@@ -30,14 +24,10 @@ fn one_frame_and_five_bytes(rt: HostRuntime) -> Result<(), Fail> {
         forward: 0xFFFE,
     };
     assert_eq!(rt; number(image.write(0, &sector)), 0x80);
-    match image.read(0) {
-        Ok(found) => {
-            assert!(rt; found.bytes == sector.bytes);
-            assert_eq!(rt; found.back, 0x0102);
-            assert_eq!(rt; found.forward, 0xFFFE);
-        }
-        Err(_) => return Err(Fail::new("the sector is not read")),
-    }
+    let found = read_sector(&mut image, 0)?;
+    assert!(rt; found.bytes == sector.bytes);
+    assert_eq!(rt; found.back, 0x0102);
+    assert_eq!(rt; found.forward, 0xFFFE);
     let bytes = image.into_bytes();
     assert!(rt; bytes.len() == 137);
     assert!(rt; bytes[0..128] == [9; 128]);
@@ -45,27 +35,21 @@ fn one_frame_and_five_bytes(rt: HostRuntime) -> Result<(), Fail> {
     Ok(())
 }
 
-// What a read of sector n and a write to it answer.
-fn numbers(image: &mut FlatImage, n: u16) -> (u8, u8) {
+#[test]
+fn refusals_in_order(rt: HostRuntime) -> Result<(), Fail> {
     let sector = Sector {
         bytes: [1; 128],
         back: 2,
         forward: 3,
     };
-    let read = number(image.read(n));
-    (read, number(image.write(n, &sector)))
-}
-
-#[test]
-fn refusals_in_order(rt: HostRuntime) -> Result<(), Fail> {
-    let mut image = FlatImage::new(vec![in rt.alloc(); 0u8; 132]?);
+    let mut image = blank(rt.alloc(), 1)?;
     image.set_door(true);
     image.set_tab(true);
-    assert_eq!(rt; numbers(&mut image, 1), (0xC1, 0xC1));
-    assert_eq!(rt; numbers(&mut image, 0), (0xC2, 0xC2));
+    assert_eq!(rt; numbers(&mut image, 1, &sector), (0xC1, 0xC1));
+    assert_eq!(rt; numbers(&mut image, 0, &sector), (0xC2, 0xC2));
     image.set_door(false);
-    assert_eq!(rt; numbers(&mut image, 0), (0x80, 0xC3));
+    assert_eq!(rt; numbers(&mut image, 0, &sector), (0x80, 0xC3));
     image.set_tab(false);
-    assert_eq!(rt; numbers(&mut image, 0), (0x80, 0x80));
+    assert_eq!(rt; numbers(&mut image, 0, &sector), (0x80, 0x80));
     Ok(())
 }

@@ -1,17 +1,13 @@
 // Whole drives.
-use device::{FlatImage, ReadingDevice, Sector};
+use crate::access::{OF_NEW_DISK, blank, read_sector};
+use device::FlatImage;
 use drive::Drive;
 use freespace::BitMap;
 use std::alloc::Global;
 use std::test::Fail;
 
-fn blank(heap: Global, sectors: usize) -> Result<FlatImage, Fail> {
-    let bytes = vec![in heap; 0; 132 * sectors.min(65535)]?;
-    Ok(FlatImage::new(bytes))
-}
-
 // The number of FORMAT's code on a disk of so many sectors.
-fn format_code(heap: Global, sectors: usize, id: &[u8]) -> Result<u8, Fail> {
+fn format_code(heap: Global, sectors: u16, id: &[u8]) -> Result<u8, Fail> {
     let mut drive = Drive::new(blank(heap, sectors)?, BitMap::new());
     let answer = drive.format(id);
     let _ = drive.release();
@@ -49,17 +45,8 @@ fn status_tells_the_numbers_of_a_new_disk(rt: HostRuntime) -> Result<(), Fail> {
     let _ = drive.release();
     assert_eq!(rt; u8::from(before.code), 0xE0);
     assert_eq!(rt; u8::from(after.code), 0x80);
-    assert_eq!(rt; usage.free, 28);
-    assert_eq!(rt; usage.used, 36);
-    assert_eq!(rt; usage.files, 0);
+    assert_eq!(rt; usage, OF_NEW_DISK);
     Ok(())
-}
-
-fn sector(image: &mut FlatImage, n: u16) -> Result<Sector, Fail> {
-    match image.read(n) {
-        Ok(sector) => Ok(sector),
-        Err(_) => Err(Fail::new("the sector is not read")),
-    }
 }
 
 // FORMAT writes the map of 64 sectors, and no sector past the directory.
@@ -69,7 +56,7 @@ fn format_leaves_the_rest_alone(rt: HostRuntime) -> Result<(), Fail> {
     let mut drive = Drive::new(FlatImage::new(bytes), BitMap::new());
     let _ = drive.format(b"EXAM 1");
     let mut image = drive.release();
-    let map = sector(&mut image, 1)?;
+    let map = read_sector(&mut image, 1)?;
     assert_eq!(rt; map.bytes[3], 0xFF);
     assert_eq!(rt; map.bytes[4], 0x0F);
     assert_eq!(rt; map.bytes[5], 0x00);
@@ -77,9 +64,9 @@ fn format_leaves_the_rest_alone(rt: HostRuntime) -> Result<(), Fail> {
     assert_eq!(rt; map.bytes[8], 0xFF);
     assert_eq!(rt; map.bytes[127], 0xFF);
     assert_eq!(rt; map.back, 0xFFFF);
-    let last = sector(&mut image, 35)?;
+    let last = read_sector(&mut image, 35)?;
     assert_eq!(rt; last.forward, 0xFFFF);
-    let untouched = sector(&mut image, 36)?;
+    let untouched = read_sector(&mut image, 36)?;
     assert_eq!(rt; untouched.bytes[0], 7);
     assert_eq!(rt; untouched.forward, 0x0707);
     Ok(())

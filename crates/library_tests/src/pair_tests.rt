@@ -4,43 +4,26 @@ ghost use Rattle.device.specs.declared.fault.Code.TheVariants.{InvalidOperation}
 ghost use Rattle.device.specs.Device.{Medium, device_fault, fetched, stored};
 ghost use Rattle.device.specs.Joined.{joined};
 
-use crate::access::read_sector;
-use device::{Code, Fault, FlatImage, JoinedPair, ReadingDevice, Sector, WritingDevice};
+use crate::access::{OF_NEW_DISK, blank, number, numbers, read_sector};
+use device::{JoinedPair, ReadingDevice, Sector, WritingDevice};
 use drive::Drive;
 use freespace::{BitMap, SectorAllocator};
-use std::alloc::Global;
 use std::test::Fail;
 
-fn zeros(heap: Global, sectors: u8) -> Result<FlatImage, Fail> {
-    let bytes = vec![in heap; 0; 132 * sectors as usize]?;
-    Ok(FlatImage::new(bytes))
-}
-
-fn number<T: Drop>(answer: Result<T, Fault>) -> u8 {
-    match answer {
-        Ok(_) => u8::from(Code::Done),
-        Err(fault) => u8::from(fault.code),
-    }
-}
-
-// What a read of sector n and a write to it answer.
-fn numbers<D: WritingDevice>(device: &mut D, n: u16) -> (u8, u8) {
-    let sector = Sector {
-        bytes: [9; 128],
-        back: 0x0102,
-        forward: 0xFFFE,
-    };
-    let read = number(device.read(n));
-    (read, number(device.write(n, &sector)))
-}
+// What the tests write.
+const WRITTEN: Sector = Sector {
+    bytes: [9; 128],
+    back: 0x0102,
+    forward: 0xFFFE,
+};
 
 #[test]
 fn a_pair_with_an_empty_first(rt: HostRuntime) -> Result<(), Fail> {
     let heap = rt.alloc();
-    let mut pair = JoinedPair::new(zeros(heap, 0)?, zeros(heap, 2)?);
+    let mut pair = JoinedPair::new(blank(heap, 0)?, blank(heap, 2)?);
     assert_eq!(rt; pair.count(), 2);
-    assert_eq!(rt; numbers(&mut pair, 1), (0x80, 0x80));
-    assert_eq!(rt; numbers(&mut pair, 2), (0xC1, 0xC1));
+    assert_eq!(rt; numbers(&mut pair, 1, &WRITTEN), (0x80, 0x80));
+    assert_eq!(rt; numbers(&mut pair, 2, &WRITTEN), (0xC1, 0xC1));
     let (mut first, mut second) = pair.into_parts();
     assert_eq!(rt; number(first.read(0)), 0xC1);
     assert_eq!(rt; read_sector(&mut second, 0)?.back, 0);
@@ -59,30 +42,28 @@ fn cut_at_65535()
 #[test]
 fn one_door_or_tab_closes_both(rt: HostRuntime) -> Result<(), Fail> {
     let heap = rt.alloc();
-    let mut second = zeros(heap, 1)?;
+    let mut second = blank(heap, 1)?;
     second.set_door(true);
     second.set_tab(true);
-    let mut pair = JoinedPair::new(zeros(heap, 1)?, second);
-    assert_eq!(rt; numbers(&mut pair, 0), (0xC2, 0xC2));
+    let mut pair = JoinedPair::new(blank(heap, 1)?, second);
+    assert_eq!(rt; numbers(&mut pair, 0, &WRITTEN), (0xC2, 0xC2));
     pair.set_door(false);
-    assert_eq!(rt; numbers(&mut pair, 0), (0x80, 0xC3));
+    assert_eq!(rt; numbers(&mut pair, 0, &WRITTEN), (0x80, 0xC3));
     pair.set_tab(false);
-    assert_eq!(rt; numbers(&mut pair, 0), (0x80, 0x80));
+    assert_eq!(rt; numbers(&mut pair, 0, &WRITTEN), (0x80, 0x80));
     Ok(())
 }
 
 #[test]
 fn a_drive_over_a_pair(rt: HostRuntime) -> Result<(), Fail> {
     let heap = rt.alloc();
-    let pair = JoinedPair::new(zeros(heap, 32)?, zeros(heap, 32)?);
+    let pair = JoinedPair::new(blank(heap, 32)?, blank(heap, 32)?);
     let mut drive = Drive::new(pair, BitMap::new());
     let formatted = drive.format(b"EXAM 1");
     let (answer, usage) = drive.status();
     let _ = drive.release();
     assert_eq!(rt; u8::from(formatted.code), 0x80);
     assert_eq!(rt; u8::from(answer.code), 0x80);
-    assert_eq!(rt; usage.free, 28);
-    assert_eq!(rt; usage.used, 36);
-    assert_eq!(rt; usage.files, 0);
+    assert_eq!(rt; usage, OF_NEW_DISK);
     Ok(())
 }

@@ -1,24 +1,16 @@
 // Disks read: examined, initialised and reopened.
-use crate::access::expect;
+use crate::access::{OF_NEW_DISK, blank, expect};
 use device::{Code, FlatImage, WritingDevice};
 use drive::{Answer, Drive, examine, reopen};
 use freespace::{BitMap, FreeList};
 use std::alloc::Global;
 use std::test::Fail;
 
-fn empty_image(heap: Global, sectors: u8) -> Result<FlatImage, Fail> {
-    let bytes = vec![in heap; 0; 132 * sectors as usize]?;
-    Ok(FlatImage::new(bytes))
-}
-
 fn formatted_image(heap: Global) -> Result<FlatImage, Fail> {
-    let mut drive = Drive::new(empty_image(heap, 64)?, BitMap::new());
+    let mut drive = Drive::new(blank(heap, 64)?, BitMap::new());
     let answer = drive.format(b"EXAM 1");
     let image = drive.release();
-    expect(
-        answer.code == Code::Done,
-        "FORMAT is refused",
-    )?;
+    expect(answer.code == Code::Done, "FORMAT is refused")?;
     Ok(image)
 }
 
@@ -44,15 +36,13 @@ fn a_new_drive_finds_what_was_formatted(rt: HostRuntime) -> Result<(), Fail> {
     let (_, usage) = drive.status();
     let _ = drive.release();
     check_answer(answer, 0x80, 0, 0xFFFF)?;
-    assert_eq!(rt; usage.free, 28);
-    assert_eq!(rt; usage.used, 36);
-    assert_eq!(rt; usage.files, 0);
+    assert_eq!(rt; usage, OF_NEW_DISK);
     Ok(())
 }
 
 #[test]
 fn a_disk_without_a_label_is_turned_away(rt: HostRuntime) -> Result<(), Fail> {
-    let (drive, answer) = reopen(empty_image(rt.alloc(), 64)?, BitMap::new());
+    let (drive, answer) = reopen(blank(rt.alloc(), 64)?, BitMap::new());
     let (status, _) = drive.status();
     let _ = drive.release();
     check_answer(answer, 0xE1, 3, 0)?;
@@ -61,7 +51,7 @@ fn a_disk_without_a_label_is_turned_away(rt: HostRuntime) -> Result<(), Fail> {
 
 #[test]
 fn the_door_counts_before_the_size(rt: HostRuntime) -> Result<(), Fail> {
-    let mut image = empty_image(rt.alloc(), 63)?;
+    let mut image = blank(rt.alloc(), 63)?;
     check_answer(examine(&mut image), 0xE5, 4, 0xFFFF)?;
     image.set_door(true);
     check_answer(examine(&mut image), 0xC2, 1, 0xFFFF)

@@ -1,15 +1,10 @@
 // Sectors that lie skewed.
-use crate::access::{expect, read_sector, write_sector};
+use crate::access::{OF_NEW_DISK, blank, expect, number, read_sector, write_sector};
 use device::{FlatImage, ReadingDevice, Sector, Skewed, place};
 use drive::Drive;
 use freespace::{BitMap, SectorAllocator};
 use std::alloc::Global;
 use std::test::Fail;
-
-fn blank(heap: Global, sectors: u16) -> Result<Skewed<FlatImage>, Fail> {
-    let bytes = vec![in heap; 0; 132 * (sectors as usize)]?;
-    Ok(Skewed::new(FlatImage::new(bytes)))
-}
 
 // Writes to each sector its number.
 fn number_sectors(device: &mut Skewed<FlatImage>, sectors: u16) -> Result<(), Fail> {
@@ -45,14 +40,14 @@ fn check_below(image: &mut FlatImage, sectors: u16) -> Result<(), Fail> {
 }
 
 fn check_size(heap: Global, sectors: u16) -> Result<(), Fail> {
-    let mut device = blank(heap, sectors)?;
+    let mut device = Skewed::new(blank(heap, sectors)?);
     expect(device.count() == sectors, "another count")?;
     number_sectors(&mut device, sectors)?;
     check_read_back(&mut device, sectors)?;
-    match device.read(sectors) {
-        Ok(_) => return Err(Fail::new("a sector past the end is read")),
-        Err(fault) => expect(u8::from(fault.code) == 0xC1, "another fault")?,
-    }
+    expect(
+        number(device.read(sectors)) == 0xC1,
+        "a sector past the end is not refused as one",
+    )?;
     check_below(&mut device.into_lower(), sectors)
 }
 
@@ -85,14 +80,12 @@ fn moves_only_within_whole_tracks(rt: HostRuntime) {
 // The map, sector 1, lies at 5 on the lower disk.
 #[test]
 fn a_drive_works_over_a_skewed_disk(rt: HostRuntime) -> Result<(), Fail> {
-    let mut drive = Drive::new(blank(rt.alloc(), 64)?, BitMap::new());
+    let mut drive = Drive::new(Skewed::new(blank(rt.alloc(), 64)?), BitMap::new());
     let answer = drive.format(b"EXAM 1");
     let (_, usage) = drive.status();
     let mut device = drive.release();
     assert_eq!(rt; u8::from(answer.code), 0x80);
-    assert_eq!(rt; usage.free, 28);
-    assert_eq!(rt; usage.used, 36);
-    assert_eq!(rt; usage.files, 0);
+    assert_eq!(rt; usage, OF_NEW_DISK);
     let map = read_sector(&mut device, 1)?;
     let mut image = device.into_lower();
     let below = read_sector(&mut image, 5)?;
