@@ -7,11 +7,11 @@ ghost use Rattle.chains.specs.Survey.{directory_on, exact_label, map_on, need, t
 ghost use Rattle.chains.specs.Scans.{Keeps, disk_of};
 
 use crate::directory::is_directory_frame;
+use crate::fault::structure_fault;
 use crate::label::is_exact_label;
 use crate::layout::{DIRECTORY_SECTORS, DIRECTORY_START, MAP_SECTORS, MAP_START, RESERVED};
 use crate::map::{Marks, map_bytes};
 use crate::scan::OpenDisk;
-use crate::walk::structure_fault;
 use device::{Code, Fault, ReadingDevice};
 use freespace::{BitMap, SectorAllocator};
 

@@ -7,8 +7,8 @@ ghost use Rattle.chains.specs.Changes.{LaidOut};
 ghost use Rattle.chains.specs.Descriptors.{descriptor_read, descriptor_stored, described, fields_in, fields_of};
 
 use crate::bytes::{put, put_word, word_at, zero_from};
+use crate::fault::structure_fault;
 use crate::layout::{NAME_BYTES, NULL_LINK};
-use crate::walk::structure_fault;
 use device::{Code, Fault, ReadingDevice, Sector, WritingDevice};
 use freespace::{AllocatedSector, Unstored};
 

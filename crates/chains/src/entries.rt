@@ -4,9 +4,9 @@ ghost use Rattle.device.specs.Device.{stored};
 ghost use Rattle.chains.specs.Layout.{Placed, place_bytes};
 ghost use Rattle.chains.specs.Places.{PlaceChanged, entry_of, no_such_place, place_written};
 
+use crate::fault::structure_fault;
 use crate::layout::{DIRECTORY_START, NAME_BYTES, NULL_LINK, PLACES};
 use crate::place::place_bytes;
-use crate::walk::structure_fault;
 use device::{Code, Fault, WritingDevice};
 
 // What is no place, or has no room for the name.

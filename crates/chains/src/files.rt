@@ -9,10 +9,11 @@ ghost use Rattle.chains.specs.Files.{Enters, descriptor_from, records_from};
 
 use crate::bytes::{all_zero, word_at};
 use crate::descriptor::{is_descriptor_shaped, is_named_as};
+use crate::fault::structure_fault;
 use crate::layout::{NULL_LINK, RESERVED};
 use crate::place::{Place, parse_place};
 use crate::scan::Scan;
-use crate::walk::{Link, structure_fault};
+use crate::walk::Link;
 use device::{Code, Fault, ReadingDevice, Sector};
 
 fn last_field_of(count: u16, end: u16) -> u16

@@ -5,11 +5,11 @@ ghost use Rattle.chains.specs.Fresh.{RowWritten, row};
 ghost use Rattle.chains.specs.Formatting.{format_answer, formatted_medium};
 
 use crate::directory::empty_directory_sector;
+use crate::fault::structure_fault;
 use crate::label::label_sector;
 use crate::layout::{DIRECTORY_SECTORS, DIRECTORY_START, MAP_SECTORS, MAP_START, is_disk_size};
 use crate::map::{FreshMarks, map_sector};
 use crate::name::is_legal_id;
-use crate::walk::structure_fault;
 use device::{Code, Fault, Sector, WritingDevice};
 
 // Writes `count` sectors from `start` on, the last first.

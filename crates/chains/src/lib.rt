@@ -6,6 +6,7 @@ mod checks;
 mod descriptor;
 mod directory;
 mod entries;
+mod fault;
 mod files;
 mod format;
 mod freeing;

@@ -6,9 +6,9 @@ ghost use Rattle.chains.specs.Layout.{reserved};
 ghost use Rattle.chains.specs.Survey.{nothing_seen, places_on, survey};
 ghost use Rattle.chains.specs.Scans.{DiskRead, Keeps, Scans, disk_of, seen_of};
 
+use crate::fault::structure_fault;
 use crate::layout::{DIRECTORY_SECTORS, DIRECTORY_START, RESERVED, is_disk_size};
 use crate::scan::{OpenDisk, Scan};
-use crate::walk::structure_fault;
 use device::{Code, Fault, ReadingDevice};
 use freespace::{BitMap, SectorAllocator, fill_unused};
 

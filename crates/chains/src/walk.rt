@@ -2,13 +2,14 @@
 ghost use Rattle.std.specs.Prelude.{◌≡◌, true, not, ◌&&◌};
 ghost use Rattle.freespace.specs.Bits.{bit_of};
 ghost use Rattle.chains.specs.Reading.{usable};
-ghost use Rattle.chains.specs.Survey.{also, structure_fault, walk_on};
+ghost use Rattle.chains.specs.Survey.{also, walk_on};
 ghost use Rattle.chains.specs.Scans.{Keeps, disk_of};
 ghost use Rattle.chains.specs.Walks.{Leads, Steps, Walks};
 
+use crate::fault::structure_fault;
 use crate::layout::{NULL_LINK, RESERVED};
 use crate::scan::Scan;
-use device::{Code, Fault, Layer, ReadingDevice};
+use device::{Code, Fault, ReadingDevice};
 use freespace::SectorAllocator;
 
 // A sector, and the sector that its forward link names.
@@ -16,17 +17,6 @@ use freespace::SectorAllocator;
 pub(crate) struct Link {
     pub(crate) from: u16,
     pub(crate) to: u16,
-}
-
-// A fault in what stands on the disk.
-pub(crate) fn structure_fault(code: Code, sector: u16) -> Fault
-    ensures { result ≡ structure_fault code sector }
-{
-    Fault {
-        code,
-        layer: Layer::Structure,
-        sector,
-    }
 }
 
 impl<D: ReadingDevice> Scan<'_, D> {
