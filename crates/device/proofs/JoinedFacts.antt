@@ -4,11 +4,11 @@ use lib.Seq.{take-set-lt}
 use Rattle.std.specs.List.{AllByRecursion}
 use Rattle.std.proofs.ByRecursion.{All-append, All-take}
 use Rattle.std.proofs.lemmas.List.{length-take, length-append, get_or-take, get_or_append_left, get_or-append_right, set-append_left, set-append_right}
-use Rattle.std.proofs.lemmas.Bool.{or_parts, lt-ltb, le-ltb}
+use Rattle.std.proofs.lemmas.Bool.{or_parts}
 use Rattle.device.specs.declared.fault.Fault.{Fault}
 use Rattle.device.specs.declared.sector.Sector.{Sector}
 use Rattle.device.specs.Device.{Medium, blank, WellFormed, fetched, stored, wrote}
-use Rattle.device.specs.Joined.{joined, wrote_first, wrote_second}
+use Rattle.device.specs.Joined.{joined}
 use Rattle.device.proofs.DeviceFacts.{fetched_ok, stored_ok}
 
 -- the sectors of both

@@ -1,4 +1,4 @@
-use Rattle.std.proofs.Common.{◌≡◌, ◌-◌, ◌<◌, ◌≤◌, cond, length, is_ok, subst, arith}
+use Rattle.std.proofs.Common.{◌≡◌, ◌-◌, cond, is_ok, subst, arith}
 use Rattle.device.specs.Device.{stored, wrote}
 use Rattle.device.proofs.JoinedFacts.{stored_first, stored_second, changed_first, changed_second}
 use Rattle.device.proofs.joined_pair.JoinedPair.write_part.Goals as goal
