@@ -34,6 +34,7 @@ fn is_listed(bytes: &[u8; 40], name: &[u8]) -> bool
 }
 
 // What was found before place p, and in it.
+#[tactic(auto, unfolding(crate::specs::Places::place_seen))]
 fn look_in_place(before: Lookup, p: u16, bytes: &[u8; 40], name: &[u8]) -> Lookup
     ensures { result ≡ place_seen name.now before p bytes.now }
 {

@@ -52,6 +52,7 @@ pub(crate) fn map_bytes<M: Marks>(marks: &M, j: u16) -> [u8; 128]
 }
 
 // Map sector j of a new disk, with links that lead nowhere.
+#[tactic(auto, unfolding(crate::specs::Fresh::map_sector))]
 pub(crate) fn map_sector<M: Marks>(marks: &M, j: u16) -> Sector
     requires { j < 3 }
     ensures { result ≡ map_sector (M.Marks.marked marks.now) j }
