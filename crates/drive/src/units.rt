@@ -96,10 +96,7 @@ impl Unit {
     fn has_name(&self, name: &[u8]) -> bool
         ensures { result ≡ has_name name.now (unit_of self.now) }
     {
-        match self.state {
-            UnitState::Closed => false,
-            UnitState::Open(_) => self.name.is(name),
-        }
+        self.is_open() && self.name.is(name)
     }
 }
 
