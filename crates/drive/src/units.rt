@@ -98,10 +98,7 @@ impl Unit {
     fn has_name(&self, name: &[u8]) -> bool
         ensures { result ≡ has_name name.now (unit_of self.now) }
     {
-        match self.state {
-            UnitState::Closed => false,
-            UnitState::Open(_) => name == self.name.bytes(),
-        }
+        self.is_open() && name == self.name.bytes()
     }
 }
 
