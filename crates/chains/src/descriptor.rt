@@ -1,6 +1,6 @@
 // The first sector of a file's chain.
 ghost use Rattle.std.specs.Prelude.{◌≡◌, ℕ, ◌≤◌, false, [], length, is_ok, if◌then◌else◌, Some, None, Ok, Err, MatchResult, slice_index_or};
-ghost use Rattle.device.specs.Device.{WellFormed, wrote};
+ghost use Rattle.device.specs.Device.{wrote};
 ghost use Rattle.chains.specs.Layout.{Layout, Entry};
 ghost use Rattle.chains.specs.Survey.{descriptor_shaped, named_as};
 ghost use Rattle.chains.specs.Changes.{LaidOut};
@@ -22,7 +22,6 @@ pub struct Descriptor {
 
 // Whether the name is that of a place of the directory.
 pub(crate) fn is_named_as(sector: &Sector, place: &[u8; 40]) -> bool
-    requires { WellFormed sector.now }
     ensures { result ≡ named_as sector.now place.now }
 {
     sector.bytes[7..40] == place[0..33]
@@ -30,7 +29,6 @@ pub(crate) fn is_named_as(sector: &Sector, place: &[u8; 40]) -> bool
 
 // Whether the zeros, the back link and the first field are those of a descriptor.
 pub(crate) fn is_descriptor_shaped(sector: &Sector) -> bool
-    requires { WellFormed sector.now }
     ensures { result ≡ descriptor_shaped sector.now }
 {
     sector.bytes[6] == 0

@@ -3,7 +3,6 @@ ghost use Rattle.std.specs.Prelude.{◌≡◌, ◌<◌};
 ghost use Rattle.chains.specs.Layout.{directory_back, directory_forward};
 ghost use Rattle.chains.specs.Fresh.{empty_directory_sector};
 ghost use Rattle.chains.specs.Survey.{directory_framed};
-ghost use Rattle.device.specs.Device.{WellFormed};
 
 use crate::bytes::zero_from;
 use crate::layout::{DIRECTORY_SECTORS, DIRECTORY_START, NULL_LINK};
@@ -46,8 +45,7 @@ pub(crate) fn empty_directory_sector(i: u16) -> Sector
 
 // Whether a sector can be the directory's sector i, whatever its places hold.
 pub(crate) fn is_directory_frame(i: u16, sector: &Sector) -> bool
-    requires below { i < 32 }
-    requires whole { WellFormed sector.now }
+    requires { i < 32 }
     ensures { result ≡ directory_framed i sector.now }
 {
     sector.back == directory_back(i)

@@ -6,7 +6,7 @@ ghost use Rattle.chains.specs.Reading.{among};
 use crate::bytes::put;
 use crate::layout::NAME_BYTES;
 
-// A file name of at most 32 bytes; an empty one is no file's.
+// A file name of at most 32 bytes; an empty one is no file's. An array of its own: names are copied, and nothing is allocated.
 #[derive(Clone, Copy)]
 pub struct Name {
     bytes: [u8; 32],

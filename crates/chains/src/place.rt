@@ -27,7 +27,7 @@ pub(crate) fn place_bytes(name: &[u8], at: u16) -> [u8; 40]
     bytes
 }
 
-// The place that 40 bytes are, if its name is legal.
+// The place that 40 bytes are, if its name is legal. An Option and no TryFrom: there is no error to tell of.
 pub(crate) fn parse_place(bytes: &[u8; 40]) -> Option<Place>
     ensures { MatchOption result ((well_formed_place bytes.now && legal (name_in bytes.now)) ≡ false) (λ p. ((well_formed_place bytes.now && legal (name_in bytes.now)) ≡ true) × (name_bytes p.name ≡ name_in bytes.now) × (p.at ≡ address_in bytes.now)) }
 {

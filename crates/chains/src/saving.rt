@@ -39,13 +39,12 @@ fn save_map_sector<D: WritingDevice, M: Marks>(
     let old = device.read(MAP_START + j)?;
     let new = Sector {
         bytes: map_bytes(marks, j),
-        back: old.back,
-        forward: old.forward,
+        ..old
     };
     device.write(MAP_START + j, &new)
 }
 
-// Writes the map with these marks, its last sector first.
+// Writes the map with these marks, its last sector first. Each is read before it is written, so this is not the row of a new disk.
 fn save_marks<D: WritingDevice, M: Marks>(device: &mut D, marks: &M) -> Result<(), Fault>
     ensures value { result ≡ stored (D.ReadingDevice.medium device.old) 3 }
     ensures after { D.ReadingDevice.medium device.new ≡ (if is_ok result then written_over (remapped_all (D.ReadingDevice.medium device.old).sectors (M.Marks.marked marks.now)) (D.ReadingDevice.medium device.old) else D.ReadingDevice.medium device.old) }

@@ -44,7 +44,7 @@ pub struct Fault {
     pub sector: u16,
 }
 
-// The sector of a fault or an answer that names none.
+// The sector of a fault or an answer that names none. A number and no Option: this is what a machine is told.
 pub const NO_SECTOR: u16 = 0xFFFF;
 
 impl From<Code> for u8 {

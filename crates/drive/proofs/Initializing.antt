@@ -79,16 +79,16 @@ module _ {D S : Type 0} (r : Reading D) (a : Allocating S) (d k e : Drive D S) (
     state = takes.state ∙ ap (started_state (length (entries l.places))) state;
   }
 
-  pub initializes_done : (size : ℕ) (x : Result Unit Fault) (s : Result Survey Fault) → size ≡ length (r.medium d.device).sectors → AllByRecursion WellFormed (r.medium d.device).sectors → Ok tt ≡ first_fault (own_initialize_checks r d) → DiskRead (r.medium d.device) s →
-      e.device ≡ k.device → ((z : Found Layout) → sized size ≡ true → Tells Shows z s → ReadsIn r a k z x e) → Initializes r a d x e
-  initializes_done size x s is whole ok does device takes =
+  pub initializes_done : (x : Result Unit Fault) (s : Result Survey Fault) → AllByRecursion WellFormed (r.medium d.device).sectors → Ok tt ≡ first_fault (own_initialize_checks r d) → DiskRead (r.medium d.device) s →
+      e.device ≡ k.device → ((z : Found Layout) → sized (length (r.medium k.device).sectors) ≡ true → Tells Shows z s → ReadsIn r a k z x e) → Initializes r a d x e
+  initializes_done x s whole ok does device takes =
       let m = r.medium d.device in
       let fit = readable (any_open d.state.units) m.door (length m.sectors) ok in
       record {
         whole = whole;
         medium = ap r.medium device ∙ same;
         refused = λ g h. absurd cc;
-        found = λ _. reads_in (reading m.sectors) x (takes (reading m.sectors) (ap sized is ∙ fit.1) (does.found fit.1 fit.0));
+        found = λ _. reads_in (reading m.sectors) x (takes (reading m.sectors) (ap (λ (m : Medium). sized (length m.sectors)) same ∙ fit.1) (does.found fit.1 fit.0));
       }
 
 module _ {D S : Type 0} (r : Reading D) (a : Allocating S) (d e : Drive D S) (buf : List ℕ) (b : Model) (rep : Represents r a b d) where

@@ -1,11 +1,9 @@
 // A drive: its device, its allocator of free sectors, and its own state.
-ghost use Rattle.std.specs.Prelude.{◌≡◌, [], ◌∷◌};
-ghost use Rattle.rules.specs.Model.{door_check, tab_check};
-ghost use Rattle.drive.specs.Checks.{first_fault};
+ghost use Rattle.std.specs.Prelude.{◌≡◌};
 ghost use Rattle.drive.specs.Exchanges.{Fresh};
 
 use crate::units::State;
-use device::{Code, Fault, Layer, WritingDevice};
+use device::WritingDevice;
 use freespace::SectorAllocator;
 
 // Holds its device and its allocator by value; `release` hands the device back.
@@ -41,23 +39,5 @@ impl<D: WritingDevice, A: SectorAllocator> Drive<D, A> {
             state: _,
         } = self;
         device
-    }
-
-    pub(crate) fn check_door(&self) -> Result<(), Fault>
-        ensures { result ≡ first_fault (door_check (D.ReadingDevice.medium self.now.device).door ∷ []) }
-    {
-        if self.device.door_open() {
-            return Err(Fault::new(Layer::Device, Code::NotReady));
-        }
-        Ok(())
-    }
-
-    pub(crate) fn check_tab(&self) -> Result<(), Fault>
-        ensures { result ≡ first_fault (tab_check (D.ReadingDevice.medium self.now.device).tab ∷ []) }
-    {
-        if self.device.tab_on() {
-            return Err(Fault::new(Layer::Device, Code::Protected));
-        }
-        Ok(())
     }
 }

@@ -30,7 +30,7 @@ impl<D: WritingDevice, A: SectorAllocator> Drive<D, A> {
         let sectors = self.device.count();
         self.check_initialize(sectors)?;
         let survey = read_disk(&mut self.device);
-        self.take_over(sectors, survey)
+        self.take_over(survey)
     }
 
     // INITIALIZE's refusals before the disk is read, in their order.
@@ -45,14 +45,13 @@ impl<D: WritingDevice, A: SectorAllocator> Drive<D, A> {
     }
 
     // Takes over what reading the disk gave: its files and its free sectors, or that nothing is known of it.
-    fn take_over(&mut self, sectors: u16, survey: Result<Survey, Fault>) -> Result<(), Fault>
-        requires { sectors ≡ length (D.ReadingDevice.medium self.old.device).sectors }
+    fn take_over(&mut self, survey: Result<Survey, Fault>) -> Result<(), Fault>
         ensures device { self.new.device ≡ self.old.device }
-        ensures reads { (x : Found Layout) → sized sectors ≡ true → Tells Shows x survey → ReadsIn D.ReadingDevice A.SectorAllocator self.old x result self.new }
+        ensures reads { (x : Found Layout) → sized (length (D.ReadingDevice.medium self.old.device).sectors) ≡ true → Tells Shows x survey → ReadsIn D.ReadingDevice A.SectorAllocator self.old x result self.new }
     {
         match survey {
             Ok(survey) => {
-                let _ = survey.fill_free(&mut self.allocator, sectors);
+                let _ = survey.fill_free(&mut self.allocator, self.device.count());
                 self.state.start(survey.files());
                 Ok(())
             }

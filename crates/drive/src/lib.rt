@@ -2,6 +2,7 @@
 #![tactic(auto)]
 
 mod answer;
+mod checks;
 mod drive;
 mod erase;
 mod examination;

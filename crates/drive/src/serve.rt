@@ -9,7 +9,7 @@ use device::WritingDevice;
 use freespace::SectorAllocator;
 
 impl<D: WritingDevice, A: SectorAllocator> Drive<D, A> {
-    // The call that a request asks for.
+    // The call that a request asks for. Requests are kept and shown too, so they are values to match and no closures.
     fn reply(&mut self, request: &Request) -> (Answer, Option<Usage>)
         ensures { Replies D.ReadingDevice A.SectorAllocator request.now self.old result.0 result.1 self.new }
     {

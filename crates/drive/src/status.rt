@@ -11,7 +11,7 @@ use device::{Code, Fault, Layer, WritingDevice};
 use freespace::SectorAllocator;
 
 impl<D: WritingDevice, A: SectorAllocator> Drive<D, A> {
-    // Tells how many sectors are free, how many are not, and how many files there are: three zeros where it is refused.
+    // Tells how many sectors are free, how many are not, and how many files there are: three zeros where it is refused, as a machine is told.
     pub fn status(&self) -> (Answer, Usage)
         ensures { ServesAlone D.ReadingDevice A.SectorAllocator Status self.now result.0 (result.1.free ∷ result.1.used ∷ result.1.files ∷ []) self.now }
     {

@@ -45,6 +45,7 @@ pub struct OpenFile {
     pub(crate) current: u16,
 }
 
+// States by name and no Option, since `step` is one match on a state and a request.
 #[derive(Clone, Copy, Debug, PartialEq, Eq)]
 pub enum UnitState {
     Closed,

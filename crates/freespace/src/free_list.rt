@@ -8,6 +8,7 @@ use crate::allocator::SectorAllocator;
 // A table that chains the members upwards, beside the span and the number of members.
 // Place 0 is the head and place n + 1 stands for number n. Each place of the chain names the next,
 // the last one the place past the span; 0 is at a place that is not in the chain.
+// Places of an array and no boxes: it chains the free sectors as a disk would, and no call allocates.
 #[derive(Drop)]
 pub struct FreeList {
     next: [u16; 2465],

@@ -9,6 +9,6 @@ returns-in_err-check_initialize g c =
 
 pub returns : goal.returns
 returns g c =
-    initializes_done g.D.ReadingDevice g.A.SectorAllocator c.args.self.now _ _ c.read_disk-survey.ensures.same refl refl _ _ _
-    c.count-sectors.ensures.value c.count-sectors.ensures.whole c.in_ok-check_initialize.ensures c.read_disk-survey.ensures.value
+    initializes_done g.D.ReadingDevice g.A.SectorAllocator c.args.self.now _ _ c.read_disk-survey.ensures.same refl refl _ _
+    c.count-sectors.ensures.whole c.in_ok-check_initialize.ensures c.read_disk-survey.ensures.value
     c.take_over.ensures.device c.take_over.ensures.reads
