@@ -7,21 +7,14 @@ ghost use Rattle.device.specs.Flat.{frame, frames, frame_count, with_frame};
 
 use crate::sector::Sector;
 
-// As many as are whole, at most 65,535.
-pub(crate) fn count_frames(bytes: &[u8]) -> u16
-    ensures { result ≡ frame_count bytes.now }
-{
-    let whole = bytes.len() / 132;
-    whole.min(65535) as u16
-}
-
-// As many sectors as the frames make.
+// As many sectors as there are whole frames, at most 65,535.
 pub(crate) fn count_sectors(bytes: &[u8]) -> u16
     ensures count { result ≡ frame_count bytes.now }
     ensures value { result ≡ length (frames bytes.now) }
     ensures whole { AllByRecursion WellFormed (frames bytes.now) }
 {
-    count_frames(bytes)
+    let whole = bytes.len() / 132;
+    whole.min(65535) as u16
 }
 
 // Sector n of those.
@@ -32,7 +25,8 @@ pub(crate) fn sector_in(bytes: &[u8], n: u16) -> Sector
     frame_at(bytes, n as usize)
 }
 
-pub(crate) fn frame_at(bytes: &[u8], n: usize) -> Sector
+// Frame n, where its bytes are there: what each read of them asks follows from this alone.
+fn frame_at(bytes: &[u8], n: usize) -> Sector
     requires { 132 * n + 132 ≤ length bytes.now }
     ensures { result ≡ frame bytes.now n }
 {

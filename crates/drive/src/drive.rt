@@ -14,7 +14,7 @@ pub struct Drive<D: WritingDevice, A: SectorAllocator> {
 }
 
 impl<D: WritingDevice, A: SectorAllocator> Drive<D, A> {
-    // A drive that has read nothing yet: no unit is open, and only FORMAT makes its disk known.
+    // A drive that has read nothing yet: no unit is open, and only FORMAT or INITIALIZE makes its disk known.
     pub fn new(device: D, allocator: A) -> Drive<D, A>
         ensures device { result.device ≡ device }
         ensures allocator { result.allocator ≡ allocator }

@@ -7,7 +7,6 @@ ghost use Rattle.drive.specs.Serves.{ServesAlone};
 ghost use Rattle.drive.specs.Units.{any_named};
 
 use crate::answer::Answer;
-use crate::checks::{check_door, check_tab};
 use crate::drive::Drive;
 use chains::{Located, clear_entry, free_chain, is_legal_name, look_up, read_descriptor, save_map};
 use device::{Code, Fault, Layer, WritingDevice};
@@ -48,7 +47,7 @@ impl<D: WritingDevice, A: SectorAllocator> Drive<D, A> {
         if self.state.disk.is_none() {
             return Err(Fault::new(Layer::Request, Code::NotInitialized));
         }
-        check_door(&self.device)?;
+        self.device.check_door()?;
         if !is_legal_name(name) {
             return Err(Fault::new(Layer::Request, Code::BadName));
         }
@@ -62,7 +61,7 @@ impl<D: WritingDevice, A: SectorAllocator> Drive<D, A> {
         if self.state.some_holds(name) {
             return Err(Fault::new(Layer::Request, Code::AlreadyOpen));
         }
-        check_tab(&self.device)
+        self.device.check_tab()
     }
 
     fn remove_file(&mut self, file: Located) -> Result<(), Fault>

@@ -10,7 +10,6 @@ ghost use Rattle.drive.specs.Parts.{Examines};
 ghost use Rattle.drive.specs.Serves.{told_by};
 
 use crate::answer::Answer;
-use crate::checks::check_door;
 use chains::{is_disk_size, read_disk};
 use device::{Code, Fault, Layer, ReadingDevice};
 
@@ -39,7 +38,7 @@ pub(crate) fn check_readable<D: ReadingDevice>(device: &D, sectors: u16) -> Resu
     requires { sectors ≡ length (D.ReadingDevice.medium device.now).sectors }
     ensures { result ≡ first_fault (initialize_checks false (D.ReadingDevice.medium device.now).door (length (D.ReadingDevice.medium device.now).sectors)) }
 {
-    check_door(device)?;
+    device.check_door()?;
     if !is_disk_size(sectors) {
         return Err(Fault::new(Layer::Request, Code::BadSize));
     }

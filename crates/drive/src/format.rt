@@ -6,7 +6,6 @@ ghost use Rattle.drive.specs.Parts.{Formats, own_checks};
 ghost use Rattle.drive.specs.Serves.{ServesAlone};
 
 use crate::answer::Answer;
-use crate::checks::{check_door, check_tab};
 use crate::drive::Drive;
 use chains::{RESERVED, format_disk, is_disk_size, is_legal_id};
 use device::{Code, Fault, Layer, WritingDevice};
@@ -38,8 +37,8 @@ impl<D: WritingDevice, A: SectorAllocator> Drive<D, A> {
         if self.state.some_open() {
             return Err(Fault::new(Layer::Request, Code::AlreadyOpen));
         }
-        check_door(&self.device)?;
-        check_tab(&self.device)?;
+        self.device.check_door()?;
+        self.device.check_tab()?;
         if !is_disk_size(self.device.count()) {
             return Err(Fault::new(Layer::Request, Code::BadSize));
         }

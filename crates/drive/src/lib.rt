@@ -2,7 +2,6 @@
 #![tactic(auto)]
 
 mod answer;
-mod checks;
 mod drive;
 mod erase;
 mod examination;
