@@ -26,17 +26,6 @@ impl Answer {
             sector: NO_SECTOR,
         }
     }
-
-    pub(crate) fn refused(code: Code, layer: Layer) -> Answer
-        ensures { result ≡ record { code = code; length = 0; layer = layer; sector = 0xFFFF } }
-    {
-        Answer {
-            code,
-            length: 0,
-            layer,
-            sector: NO_SECTOR,
-        }
-    }
 }
 
 // A fault from below, with its layer and sector as they came.

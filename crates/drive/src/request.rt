@@ -4,7 +4,7 @@ ghost use Rattle.device.specs.declared.fault.Code.TheVariants.{InvalidOperation}
 ghost use Rattle.device.specs.declared.fault.Layer.TheVariants as layer;
 
 use crate::answer::Answer;
-use device::{Code, Layer};
+use device::{Code, Fault, Layer};
 
 #[derive(Drop)]
 pub enum Request {
@@ -39,7 +39,7 @@ impl Exchange {
         Exchange {
             request,
             buffer,
-            answer: Answer::refused(Code::InvalidOperation, Layer::Request),
+            answer: Fault::new(Layer::Request, Code::InvalidOperation).into(),
             reported: None,
         }
     }

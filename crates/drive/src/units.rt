@@ -116,7 +116,6 @@ pub struct State {
     // A drive that knows its disk is initialised.
     pub(crate) disk: Option<KnownDisk>,
     pub(crate) units: [Unit; 16],
-    ghost sixteen: { length units ≡ 16 },
 }
 
 impl State {
@@ -186,12 +185,12 @@ impl State {
         self.units[u as usize]
     }
 
-    // Moves unit u to another state; one that is opened takes the name.
-    pub(crate) fn put_unit(&mut self, u: u16, state: UnitState, name: Name)
-        requires below { u < 16 }
+    // Puts unit u into another state, with the name that it has there.
+    pub(crate) fn put_unit(&mut self, u: u16, unit: Unit)
+        requires { u < 16 }
         ensures disk { self.new.disk ≡ self.old.disk }
-        ensures units { self.new.units ≡ slice_set self.old.units u (record { state = state; name = name }) }
+        ensures units { self.new.units ≡ slice_set self.old.units u unit }
     {
-        self.units[u as usize] = Unit { state, name };
+        self.units[u as usize] = unit;
     }
 }
