@@ -25,7 +25,7 @@ impl<D: WritingDevice, A: SectorAllocator> Drive<D, A> {
         self.check_format(id)?;
         let sectors = self.device.count();
         format_disk(&mut self.device, id)?;
-        let _ = fill_from(&mut self.allocator, RESERVED, sectors);
+        fill_from(&mut self.allocator, RESERVED, sectors);
         self.state.start(0);
         Ok(())
     }

@@ -51,7 +51,7 @@ impl<D: WritingDevice, A: SectorAllocator> Drive<D, A> {
     {
         match survey {
             Ok(survey) => {
-                let _ = survey.fill_free(&mut self.allocator, self.device.count());
+                survey.fill_free(&mut self.allocator, self.device.count());
                 self.state.start(survey.files());
                 Ok(())
             }

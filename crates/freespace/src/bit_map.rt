@@ -2,7 +2,7 @@ ghost use Rattle.std.specs.Prelude.{◌≡◌, ℕ, ◌<◌, ◌≤◌, true, fa
 ghost use Rattle.freespace.specs.Bits.{bit_of};
 ghost use Rattle.freespace.specs.Sets.{counted, Picks};
 
-use crate::allocator::SectorAllocator;
+use crate::allocator::{LARGEST_SPAN, SectorAllocator};
 use crate::bits::{bit, no_bytes, with_bit, without_bit};
 
 // A bit for each number, eight to a byte, beside the span and the number of members.
@@ -76,7 +76,7 @@ impl SectorAllocator for BitMap {
     ghost small = { λ k. k.small };
 
     fn clear(&mut self, sectors: u16) -> bool {
-        if sectors > 2464 {
+        if sectors > LARGEST_SPAN {
             return false;
         }
         self.bits = no_bytes();

@@ -48,7 +48,7 @@ fn fill_where<A: SectorAllocator, F: Fn(u16) -> bool>(
     }
     for n in (first..sectors).rev() {
         if is_free(n) {
-            let _ = allocator.give(n);
+            allocator.give(n);
         }
     }
     true

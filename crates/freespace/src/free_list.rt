@@ -3,7 +3,7 @@ ghost use Rattle.freespace.specs.Links.{link, linked, Chained};
 ghost use Rattle.freespace.specs.Sets.{counted, without, Picks};
 ghost use Rattle.std.proofs.Common.{rules};
 
-use crate::allocator::SectorAllocator;
+use crate::allocator::{LARGEST_SPAN, SectorAllocator};
 
 // A table that chains the members upwards, beside the span and the number of members.
 // Place 0 is the head and place n + 1 stands for number n. Each place of the chain names the next,
@@ -107,7 +107,7 @@ impl SectorAllocator for FreeList {
     ghost small = { λ k. k.small };
 
     fn clear(&mut self, sectors: u16) -> bool {
-        if sectors > 2464 {
+        if sectors > LARGEST_SPAN {
             return false;
         }
         *self = FreeList::spanning(sectors);

@@ -9,7 +9,7 @@ mod fill;
 mod free_list;
 
 pub use allocated::{AllocatedSector, Unstored};
-pub use allocator::SectorAllocator;
+pub use allocator::{LARGEST_SPAN, SectorAllocator};
 pub use bit_map::BitMap;
 pub use fill::{fill_from, fill_unused};
 pub use free_list::FreeList;

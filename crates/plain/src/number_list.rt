@@ -3,7 +3,7 @@ ghost use Rattle.std.specs.Prelude.{◌≡◌, ℕ, ◌<◌, ◌≤◌, true, []
 ghost use Rattle.freespace.specs.Sets.{counted};
 ghost use Rattle.plain.specs.Members.{listed};
 
-use freespace::SectorAllocator;
+use freespace::{LARGEST_SPAN, SectorAllocator};
 use std::alloc::{AllocError, Global};
 
 #[derive(Drop)]
@@ -22,7 +22,7 @@ impl NumberList {
     pub fn new(heap: Global) -> Result<NumberList, AllocError>
         ensures { IfOk result (λ l. (l.sectors ≡ 0) × (l.members.items ≡ [])) }
     {
-        let members = Vec::with_capacity(heap, 2464)?;
+        let members = Vec::with_capacity(heap, LARGEST_SPAN as usize)?;
         Ok(NumberList {
             members,
             sectors: 0,
@@ -40,7 +40,7 @@ impl SectorAllocator for NumberList {
     ghost small = { λ k. k.small };
 
     fn clear(&mut self, sectors: u16) -> bool {
-        if sectors > 2464 {
+        if sectors > LARGEST_SPAN {
             return false;
         }
         self.members.clear();
