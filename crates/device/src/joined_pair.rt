@@ -14,6 +14,13 @@ pub struct JoinedPair<F, S> {
     second: S,
 }
 
+// The count has 16 bits: sectors past it are cut off.
+fn cut_sum(first: u16, second: u16) -> u16
+    ensures { result ≡ min 65535 (first + second) }
+{
+    first.saturating_add(second)
+}
+
 impl<F: WritingDevice, S: WritingDevice> JoinedPair<F, S> {
     pub fn new(first: F, second: S) -> JoinedPair<F, S>
         ensures first { result.first ≡ first }
@@ -72,8 +79,7 @@ impl<F: WritingDevice, S: WritingDevice> ReadingDevice for JoinedPair<F, S> {
         ensures whole { AllByRecursion WellFormed (joined_medium F.ReadingDevice S.ReadingDevice self.now).sectors }
         ensures cut { result ≡ min 65535 (length (F.ReadingDevice.medium self.now.first).sectors + length (S.ReadingDevice.medium self.now.second).sectors) }
     {
-        // Sectors past what 16 bits can count are cut off.
-        self.first.count().saturating_add(self.second.count())
+        cut_sum(self.first.count(), self.second.count())
     }
 
     // One open door refuses the sectors of both.

@@ -36,7 +36,7 @@ impl BitMap {
         bit(self.bits[(n / 8) as usize], n % 8)
     }
 
-    // The least member.
+    // A member, if there is one.
     fn first(&self) -> Option<u16>
         ensures { Picks result (bit_of self.now.bits) }
     {

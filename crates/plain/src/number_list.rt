@@ -1,6 +1,6 @@
 // An allocator over a vector of the free numbers, in no order.
 ghost use Rattle.std.specs.Prelude.{◌≡◌, ℕ, ◌<◌, ◌≤◌, true, [], IfOk, vec_len, vec_capacity};
-ghost use Rattle.freespace.specs.Sets.{counted};
+ghost use Rattle.freespace.specs.Sets.{counted, without, Picks};
 ghost use Rattle.plain.specs.Members.{listed};
 
 use freespace::{LARGEST_SPAN, SectorAllocator};
@@ -27,6 +27,15 @@ impl NumberList {
             members,
             sectors: 0,
         })
+    }
+
+    // Any member will do; the last one is at hand.
+    fn remove_last(&mut self) -> Option<u16>
+        ensures picks { Picks result (listed self.old.members.items) }
+        ensures spans { self.new.sectors ≡ self.old.sectors }
+        ensures after { (m : ℕ) → listed self.new.members.items m ≡ without result (listed self.old.members.items) m }
+    {
+        self.members.pop()
     }
 }
 
@@ -58,7 +67,7 @@ impl SectorAllocator for NumberList {
     }
 
     fn remove_one(&mut self) -> Option<u16> {
-        self.members.pop()
+        self.remove_last()
     }
 
     fn contains(&self, n: u16) -> bool {

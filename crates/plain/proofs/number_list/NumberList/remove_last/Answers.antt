@@ -1,7 +1,7 @@
 use Rattle.std.proofs.Common.{◌≡◌, ℕ, ◌+◌, ◌++◌, Option, MatchOption, option_to_list, Vec, vec_len, refl, arith}
 use Rattle.plain.specs.declared.number_list.NumberList.{NumberList}
 use Rattle.plain.proofs.MemberLaws.{Left, left}
-use Rattle.plain.proofs.number_list.NumberListSectorAllocator.remove_one.Goals as goal
+use Rattle.plain.proofs.number_list.NumberList.remove_last.Goals as goal
 
 popped : {Z : Type 0} (k : NumberList) (rest : Vec ℕ Z) (taken : Option ℕ)
     → k.members.items ≡ rest.items ++ option_to_list taken
