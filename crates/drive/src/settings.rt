@@ -25,6 +25,7 @@ impl<D: WritingDevice, A: SectorAllocator> Drive<D, A> {
         self.set_tab(is_on)
     }
 
+    // What the call does to the medium; that this serves the request is shown above it.
     fn set_door(&mut self, is_open: bool) -> Answer
         ensures { Sets D.ReadingDevice (with_door (D.ReadingDevice.medium self.old.device) is_open) self.old result self.new }
     {
