@@ -33,7 +33,7 @@ fn try_examine<D: ReadingDevice>(device: &mut D) -> Result<(), Fault>
     Ok(())
 }
 
-// Refused for an open door, then for a size that no disk has.
+// Refused for an open door, then for a size that no disk has. The caller counts first: that tells it that the sectors are whole.
 pub(crate) fn check_readable<D: ReadingDevice>(device: &D, sectors: u16) -> Result<(), Fault>
     requires { sectors ≡ length (D.ReadingDevice.medium device.now).sectors }
     ensures { result ≡ first_fault (initialize_checks false (D.ReadingDevice.medium device.now).door (length (D.ReadingDevice.medium device.now).sectors)) }

@@ -49,6 +49,7 @@ impl<D: WritingDevice, A: SectorAllocator> Drive<D, A> {
         ensures device { self.new.device ≡ self.old.device }
         ensures reads { (x : Found Layout) → sized (length (D.ReadingDevice.medium self.old.device).sectors) ≡ true → Tells Shows x survey → ReadsIn D.ReadingDevice A.SectorAllocator self.old x result self.new }
     {
+        // Either arm changes the drive, so this is no `?`.
         match survey {
             Ok(survey) => {
                 survey.fill_free(&mut self.allocator, self.device.count());

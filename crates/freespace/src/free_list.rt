@@ -57,7 +57,7 @@ impl FreeList {
         self.next[0] > self.sectors
     }
 
-    // The last place of the chain before that of n, which is not in it; the head counts as one.
+    // The last place of the chain before that of n, which is not in it; the head counts as one. It follows links, so no range counts it.
     fn place_before(&self, n: u16) -> u16
         requires { (n < self.now.sectors) × (linked self.now.next n ≡ false) }
         ensures low { result ≤ n }
