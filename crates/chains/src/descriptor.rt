@@ -13,7 +13,7 @@ use device::{Code, Fault, ReadingDevice, Sector, WritingDevice};
 use freespace::{AllocatedSector, Unstored};
 
 // What a descriptor says of its file's records: the sectors of the first and the last, and how many there are.
-#[derive(Clone, Copy)]
+#[derive(Clone, Copy, Debug, PartialEq, Eq)]
 pub struct Descriptor {
     pub first: u16,
     pub last: u16,

@@ -9,14 +9,14 @@ use crate::layout::{DIRECTORY_SECTORS, DIRECTORY_START, NAME_BYTES};
 use device::{Fault, ReadingDevice};
 
 // Where the directory lists a file, and the sector of its descriptor.
-#[derive(Clone, Copy)]
+#[derive(Clone, Copy, Debug, PartialEq, Eq)]
 pub struct Located {
     pub place: u16,
     pub descriptor: u16,
 }
 
 // What a look through the directory found: the file, if it is there, and the lowest empty place, if there is one.
-#[derive(Clone, Copy)]
+#[derive(Clone, Copy, Debug, PartialEq, Eq)]
 pub struct Lookup {
     pub file: Option<Located>,
     pub empty: Option<u16>,
@@ -40,8 +40,8 @@ fn look_in_place(before: Lookup, p: u16, bytes: &[u8; 40], name: &[u8]) -> Looku
 {
     if all_zero(bytes) {
         return Lookup {
-            file: before.file,
             empty: before.empty.or(Some(p)),
+            ..before
         };
     }
     if !is_listed(bytes, name) {
@@ -53,7 +53,7 @@ fn look_in_place(before: Lookup, p: u16, bytes: &[u8; 40], name: &[u8]) -> Looku
     };
     Lookup {
         file: before.file.or(Some(here)),
-        empty: before.empty,
+        ..before
     }
 }
 

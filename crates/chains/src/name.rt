@@ -11,7 +11,6 @@ use crate::layout::NAME_BYTES;
 pub struct Name {
     bytes: [u8; 32],
     size: u8,
-    ghost long: { length bytes ≡ 32 },
     ghost short: { size ≤ 32 },
 }
 

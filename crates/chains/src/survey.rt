@@ -8,7 +8,7 @@ ghost use Rattle.chains.specs.Scans.{DiskRead, Keeps, Scans, disk_of, seen_of};
 
 use crate::fault::structure_fault;
 use crate::layout::{DIRECTORY_SECTORS, DIRECTORY_START, RESERVED, is_disk_size};
-use crate::scan::{OpenDisk, Scan};
+use crate::scan::{ReadableDisk, Scan};
 use device::{Code, Fault, ReadingDevice};
 use freespace::{BitMap, SectorAllocator, fill_unused};
 
@@ -104,7 +104,7 @@ pub fn read_disk<D: ReadingDevice>(device: &mut D) -> Result<Survey, Fault>
     }
     // An open door is refused here.
     device.read(0)?;
-    let mut scan = Scan::new(OpenDisk { device, size });
+    let mut scan = Scan::new(ReadableDisk { device, size });
     scan.survey()?;
     Ok(scan.into_survey())
 }
