@@ -18,11 +18,10 @@ chunk_at (suc k) xs (suc j) h =
     chunk_at k (drop 40 xs) j (omega arith) ∙ ap (λ (ys : List ℕ). take 40 ys) (drop-drop (40 * j) 40 xs ∙ ap (λ (n : ℕ). drop n xs) on)
 
 -- the places of the sector e, which was fetched as d
-pub same_places : (d e : Sector) (places : List (List ℕ)) → ◌≡◌ {A = Result Sector Fault} (Ok d) (Ok e) → length d.bytes ≡ 128 → places ≡ first_chunks 40 (length d.bytes / 40) d.bytes → places ≡ first_chunks 40 3 e.bytes
-same_places d e places got whole chunks =
+pub same_places : (d e : Sector) (places : List (List ℕ)) → ◌≡◌ {A = Result Sector Fault} (Ok d) (Ok e) → places ≡ first_chunks 40 3 d.bytes → places ≡ first_chunks 40 3 e.bytes
+same_places d e places got chunks =
     let there : d ≡ e = cc in
-    let three : length d.bytes / 40 ≡ 3 = omega arith in
-    chunks ∙ (λ k. first_chunks 40 (three k) (there k).bytes)
+    chunks ∙ (λ k. first_chunks 40 3 (there k).bytes)
 
 -- ---- splitting a row of places
 

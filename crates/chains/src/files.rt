@@ -66,7 +66,7 @@ impl<D: ReadingDevice> Scan<'_, D> {
     fn is_fit(&self, place: &Place) -> bool
         ensures { result ≡ (not ((seen_of self.now).names (name_bytes place.now.name)) && usable (disk_of self.now.disk) place.now.at) }
     {
-        !place.name.is_among(&self.names) && RESERVED <= place.at && place.at < self.disk.size
+        !place.name.is_among(&self.names) && (RESERVED..self.disk.size).contains(&place.at)
     }
 
     // Takes the name and the descriptor's sector from the bytes of a place, and notes that sector.

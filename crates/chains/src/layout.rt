@@ -35,7 +35,7 @@ pub(crate) const MOST_SECTORS: u16 = 2464;
 pub fn is_disk_size(sectors: u16) -> bool
     ensures { result ≡ sized sectors }
 {
-    LEAST_SECTORS <= sectors && sectors <= MOST_SECTORS
+    (LEAST_SECTORS..=MOST_SECTORS).contains(&sectors)
 }
 
 // A sector that no chain holds.

@@ -1,6 +1,6 @@
 // File names and disk IDs.
-ghost use Rattle.std.specs.Prelude.{◌≡◌, ◌≤◌, not, ◌&&◌, [], length, take, ◌==◌, map, nat_le};
-ghost use Rattle.chains.specs.Names.{all, legal, legal_id, letter, name_character, spelled};
+ghost use Rattle.std.specs.Prelude.{◌≡◌, ◌≤◌, [], length, take, map};
+ghost use Rattle.chains.specs.Names.{all, id_character, legal, legal_id, letter, name_character, spelled};
 ghost use Rattle.chains.specs.Reading.{among};
 
 use crate::bytes::put;
@@ -51,6 +51,7 @@ impl Name {
     }
 }
 
+// For the ArrayVec of the names that were met.
 impl Default for Name {
     ghost use Rattle.chains.specs.NameBytes.{name_bytes};
 
@@ -73,6 +74,7 @@ fn is_name_character(c: u8) -> bool
     is_letter(c) || c.is_ascii_digit() || matches!(c, b'?' | b'_' | b'.')
 }
 
+// Two functions of their own, this and that of an ID: the check finds each row alone, and not within its caller.
 fn are_name_characters(bytes: &[u8]) -> bool
     ensures { result ≡ all name_character bytes.now }
 {
@@ -96,13 +98,13 @@ pub fn is_legal_name(name: &[u8]) -> bool
 }
 
 fn is_id_character(c: u8) -> bool
-    ensures { result ≡ (nat_le 0x20 c && (nat_le c 0x7E && not (c == 0x3B))) }
+    ensures { result ≡ id_character c }
 {
-    0x20 <= c && c <= 0x7E && c != b';'
+    (0x20..=0x7E).contains(&c) && c != b';'
 }
 
 fn are_id_characters(id: &[u8]) -> bool
-    ensures { result ≡ all (λ c. nat_le 0x20 c && (nat_le c 0x7E && not (c == 0x3B))) id.now }
+    ensures { result ≡ all id_character id.now }
 {
     id.iter().all(|c| is_id_character(*c))
 }

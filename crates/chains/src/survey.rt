@@ -8,6 +8,7 @@ ghost use Rattle.chains.specs.Scans.{DiskRead, Keeps, Scans, disk_of, seen_of};
 
 use crate::fault::structure_fault;
 use crate::layout::{DIRECTORY_SECTORS, DIRECTORY_START, RESERVED, is_disk_size};
+use crate::place::places_in;
 use crate::scan::{ReadableDisk, Scan};
 use device::{Code, Fault, ReadingDevice};
 use freespace::{BitMap, SectorAllocator, fill_unused};
@@ -47,8 +48,7 @@ impl<D: ReadingDevice> Scan<'_, D> {
         ensures same { Keeps self.old.disk self.new.disk }
     {
         let sector = self.disk.fetch(DIRECTORY_START + i)?;
-        let (places, _) = sector.bytes.as_chunks::<40>();
-        for place in places {
+        for place in places_in(&sector.bytes) {
             self.read_place(DIRECTORY_START + i, place)?;
         }
         Ok(())
