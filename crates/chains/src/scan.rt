@@ -1,7 +1,6 @@
 // A disk that is being read, and what was met on it so far.
-ghost use Rattle.std.specs.Prelude.{◌≡◌, ◌<◌, length, IfOk, Ok};
+ghost use Rattle.std.specs.Prelude.{◌≡◌, ◌<◌, length, Ok};
 ghost use Rattle.std.proofs.Props.{props};
-ghost use Rattle.device.specs.Device.{WellFormed};
 ghost use Rattle.chains.specs.Reading.{sector_at};
 ghost use Rattle.chains.specs.Readable.{Readable};
 
@@ -26,7 +25,6 @@ impl<D: ReadingDevice> ReadableDisk<'_, D> {
     pub(crate) fn fetch(&mut self, n: u16) -> Result<Sector, Fault>
         requires { n < self.old.size }
         ensures value { result ≡ Ok (sector_at (disk_of self.old) n) }
-        ensures whole { IfOk result WellFormed }
         ensures same { Keeps self.old self.new }
     {
         self.device.read(n)

@@ -44,7 +44,6 @@ impl<D: ReadingDevice> Scan<'_, D> {
         requires few { array_vec_len self.old.names + 3 ≤ 96 }
         requires below { i < 32 }
         ensures scans { Scans (places_on (disk_of self.old.disk) 3 (3 * i) (seen_of self.old)) result self.new }
-        ensures count { array_vec_len self.new.names ≤ array_vec_len self.old.names + 3 }
         ensures same { Keeps self.old.disk self.new.disk }
     {
         let sector = self.disk.fetch(DIRECTORY_START + i)?;
