@@ -1,5 +1,5 @@
 // One place of the directory and its file: descriptor and records.
-ghost use Rattle.std.specs.Prelude.{◌≡◌, ◌+◌, ◌<◌, ◌≤◌, not, ◌&&◌, length};
+ghost use Rattle.std.specs.Prelude.{◌≡◌, ◌<◌, not, ◌&&◌, length};
 ghost use Rattle.arrayvec.specs.ArrayVec.{array_vec_len};
 ghost use Rattle.chains.specs.NameBytes.{name_bytes};
 ghost use Rattle.chains.specs.Reading.{sector_at, usable};
@@ -64,7 +64,7 @@ impl<D: ReadingDevice> Scan<'_, D> {
     fn is_fit(&self, place: &Place) -> bool
         ensures { result ≡ (not ((seen_of self.now).names (name_bytes place.now.name)) && usable (disk_of self.now.disk) place.now.at) }
     {
-        !place.name.is_among(&self.names) && (RESERVED..self.disk.size).contains(&place.at)
+        !self.names.contains(&place.name) && (RESERVED..self.disk.size).contains(&place.at)
     }
 
     // Takes the name and the descriptor's sector from the bytes of a place, and notes that sector.

@@ -1,7 +1,6 @@
 // File names and disk IDs.
-ghost use Rattle.std.specs.Prelude.{◌≡◌, ◌≤◌, [], length, take, map};
+ghost use Rattle.std.specs.Prelude.{◌≡◌, ◌≤◌, [], length, take};
 ghost use Rattle.chains.specs.Names.{all, id_character, legal, legal_id, letter, name_character, spelled};
-ghost use Rattle.chains.specs.Reading.{among};
 
 use crate::bytes::put;
 use crate::layout::NAME_BYTES;
@@ -43,11 +42,21 @@ impl Name {
     {
         &self.bytes[..self.size as usize]
     }
+}
 
-    pub(crate) fn is_among(&self, names: &[Name]) -> bool
-        ensures { result ≡ among (name_bytes self.now) (map name_bytes names.now) }
-    {
-        names.iter().any(|known| self.bytes() == known.bytes())
+// By the bytes of the name: what stands past them does not count.
+impl PartialEq for Name {
+    ghost use Rattle.std.proofs.Common.{rules};
+    ghost use Rattle.std.specs.Cmp.Rules.{comparing};
+    ghost use Rattle.chains.specs.Names.{same};
+    ghost use Rattle.chains.specs.NameBytes.{name_bytes};
+
+    ghost eq = { λ a b. same (name_bytes a) (name_bytes b) };
+
+    ghost laws = { Prim.search (comparing, rules) };
+
+    fn eq(&self, other: &Name) -> bool {
+        self.bytes() == other.bytes()
     }
 }
 
