@@ -83,7 +83,7 @@ fn is_name_character(c: u8) -> bool
     is_letter(c) || c.is_ascii_digit() || matches!(c, b'?' | b'_' | b'.')
 }
 
-// Two functions of their own, this and that of an ID: the check finds each row alone, and not within its caller.
+// This and `are_id_characters` are functions of their own because the check proves them so without help, and not within their callers.
 fn are_name_characters(bytes: &[u8]) -> bool
     ensures { result ≡ all name_character bytes.now }
 {
