@@ -31,8 +31,8 @@ chunk_at (suc k) xs (suc i) d h =
     chunk_at k (drop 40 xs) i d (omega arith) ∙ ap (take 40) (drop-drop (40 * i) 40 xs ∙ ap (λ m. drop m xs) on)
 
 -- one of the three places of a sector
-pub third_of : (bs : List ℕ) (places : List (List ℕ)) (d : List ℕ) (i : ℕ) → places ≡ first_chunks 40 (length bs / 40) bs → length bs ≡ 128 → i < 3 → get_or places i d ≡ take 40 (drop (40 * i) bs)
-third_of bs places d i cut long h = ap (λ ps. get_or ps i d) (cut ∙ ap (λ (n : ℕ). first_chunks 40 (n / 40) bs) long) ∙ chunk_at 3 bs i d h
+pub third_of : (bs : List ℕ) (places : List (List ℕ)) (d : List ℕ) (i : ℕ) → places ≡ first_chunks 40 3 bs → i < 3 → get_or places i d ≡ take 40 (drop (40 * i) bs)
+third_of bs places d i cut h = ap (λ ps. get_or ps i d) cut ∙ chunk_at 3 bs i d h
 
 pub parsed_place : (m : Medium) (p : ℕ) (s : Sector) (bs : List ℕ) (o : Option Place) → Ok s ≡ fetched m (4 + p / 3) → bs ≡ take 40 (drop (40 * (p % 3)) s.bytes) → Parsed bs o → PlaceRead m p (Ok o)
 parsed_place m p s bs o e cut h =

@@ -1,5 +1,7 @@
 -- A name among others, and one more of them.
-use Rattle.std.proofs.Common.{◌≡◌, ℕ, true, false, Bool, ◌||◌, List, [], ◌∷◌, ◌++◌, map, refl, ap, ◌∙◌}
+use Rattle.std.proofs.Common.{◌≡◌, ℕ, true, false, Bool, ◌||◌, List, [], ◌∷◌, ◌++◌, map, sym, refl, ap, ◌∙◌}
+use Rattle.std.proofs.lemmas.Slice.Eq.{bytes_eq-Decides}
+use Rattle.std.specs.Bool.{Decides}
 use Rattle.std.specs.List.{list_any}
 use Rattle.std.proofs.lemmas.List.{map_push}
 use Rattle.chains.specs.declared.name.Name.{Name}
@@ -7,9 +9,19 @@ use Rattle.chains.specs.Names.{same}
 use Rattle.chains.specs.NameBytes.{name_bytes}
 use Rattle.chains.specs.Reading.{among}
 
-pub among_is : (n : List ℕ) (ns : List Name) → list_any (λ m. same n (name_bytes m)) ns ≡ among n (map name_bytes ns)
+agree : {A B : Type 0} (b c : Bool) → Decides b A → Decides c B → (A → B) → (B → A) → b ≡ c
+agree true true x y f g = refl
+agree true false x y f g = sym (y.1 (f (x.0 refl)))
+agree false true x y f g = x.1 (g (y.0 refl))
+agree false false x y f g = refl
+
+same_turned : (m n : List ℕ) → same m n ≡ same n m
+same_turned m n = agree (same m n) (same n m) (bytes_eq-Decides m n) (bytes_eq-Decides n m) sym sym
+
+-- what `contains` answers
+pub among_is : (n : List ℕ) (ns : List Name) → list_any (λ m. same (name_bytes m) n) ns ≡ among n (map name_bytes ns)
 among_is n [] = refl
-among_is n (m ∷ ns) = ap (λ b. same n (name_bytes m) || b) (among_is n ns)
+among_is n (m ∷ ns) = λ i. same_turned (name_bytes m) n i || among_is n ns i
 
 or_swap : (a b c : Bool) → (a || (b || c)) ≡ (b || (a || c))
 or_swap true true c = refl

@@ -7,7 +7,7 @@ use Rattle.device.specs.declared.reading.ReadingDevice.{Ghosts}
 use Rattle.device.specs.Device.{Medium, device_fault}
 use Rattle.freespace.specs.Bits.{bit_of}
 use Rattle.chains.specs.declared.name.Name.{Name}
-use Rattle.chains.specs.declared.scan.OpenDisk.{OpenDisk}
+use Rattle.chains.specs.declared.scan.ReadableDisk.{ReadableDisk}
 use Rattle.chains.specs.declared.scan.Scan.{Scan}
 use Rattle.chains.specs.declared.survey.Survey.{Survey}
 use Rattle.chains.specs.Layout.{Disk, Layout, sized, member, numbers, chains}
@@ -21,11 +21,11 @@ listed_names t = map name_bytes t.items
 
 module _ {D : Type 0} {G : Ghosts D} where
   -- the sectors that are read
-  abbrev pub disk_of : OpenDisk D G → Disk
+  abbrev pub disk_of : ReadableDisk D G → Disk
   disk_of d = (G.medium d.device.now).sectors
 
   -- the same device is lent, with the same medium and the same size
-  pub record Keeps (d e : OpenDisk D G) : Type 0 where
+  pub record Keeps (d e : ReadableDisk D G) : Type 0 where
     pub device : e.device.ghost_name ≡ d.device.ghost_name
     pub medium : G.medium e.device.now ≡ G.medium d.device.now
     pub size : e.size ≡ d.size

@@ -11,7 +11,7 @@ use crate::fault::structure_fault;
 use crate::label::is_exact_label;
 use crate::layout::{DIRECTORY_SECTORS, DIRECTORY_START, MAP_SECTORS, MAP_START, RESERVED};
 use crate::map::{Marks, map_bytes};
-use crate::scan::OpenDisk;
+use crate::scan::ReadableDisk;
 use device::{Code, Fault, ReadingDevice};
 use freespace::{BitMap, SectorAllocator};
 
@@ -30,7 +30,7 @@ impl Marks for MetMarks<'_> {
     }
 }
 
-impl<D: ReadingDevice> OpenDisk<'_, D> {
+impl<D: ReadingDevice> ReadableDisk<'_, D> {
     pub(crate) fn check_label(&mut self) -> Result<(), Fault>
         ensures value { result ≡ need (exact_label (sector_at (disk_of self.old) 0).bytes (length (disk_of self.old))) bad_label 0 (Ok tt) }
         ensures same { Keeps self.old self.new }

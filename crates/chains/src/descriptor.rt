@@ -13,7 +13,7 @@ use device::{Code, Fault, ReadingDevice, Sector, WritingDevice};
 use freespace::{AllocatedSector, Unstored};
 
 // What a descriptor says of its file's records: the sectors of the first and the last, and how many there are.
-#[derive(Clone, Copy)]
+#[derive(Clone, Copy, Debug, PartialEq, Eq)]
 pub struct Descriptor {
     pub first: u16,
     pub last: u16,
@@ -102,6 +102,7 @@ pub fn store_descriptor<D: WritingDevice>(
     ensures answer { MatchResult result (λ n. (n ≡ sector.number) × (descriptor_stored (D.ReadingDevice.medium device.old) sector.number name.now ≡ Ok tt)) (λ e. (e.sector ≡ sector) × (descriptor_stored (D.ReadingDevice.medium device.old) sector.number name.now ≡ Err e.fault)) }
     ensures after { MatchResult result (λ _. D.ReadingDevice.medium device.new ≡ wrote (D.ReadingDevice.medium device.old) sector.number (described name.now (fields_of []))) (λ _. D.ReadingDevice.medium device.new ≡ D.ReadingDevice.medium device.old) }
 {
+    // The test of `write_descriptor` again: this refusal gives the token back.
     if name.len() > NAME_BYTES {
         return Err(Unstored {
             fault: structure_fault(Code::BadEntry, sector.number()),

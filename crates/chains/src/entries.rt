@@ -4,16 +4,15 @@ ghost use Rattle.device.specs.Device.{stored};
 ghost use Rattle.chains.specs.Layout.{Placed, place_bytes};
 ghost use Rattle.chains.specs.Places.{PlaceChanged, entry_of, no_such_place, place_written};
 
-use crate::fault::structure_fault;
-use crate::layout::{DIRECTORY_START, NAME_BYTES, NULL_LINK, PLACES};
+use crate::layout::{DIRECTORY_START, NAME_BYTES, PLACES};
 use crate::place::place_bytes;
-use device::{Code, Fault, WritingDevice};
+use device::{Code, Fault, Layer, WritingDevice};
 
 // What is no place, or has no room for the name.
 fn no_such_place() -> Fault
     ensures { result ≡ no_such_place }
 {
-    structure_fault(Code::InvalidOperation, NULL_LINK)
+    Fault::new(Layer::Structure, Code::InvalidOperation)
 }
 
 // Where place p begins in its sector, which holds three.

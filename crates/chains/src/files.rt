@@ -1,5 +1,5 @@
 // One place of the directory and its file: descriptor and records.
-ghost use Rattle.std.specs.Prelude.{◌≡◌, ◌+◌, ◌<◌, ◌≤◌, not, ◌&&◌, length};
+ghost use Rattle.std.specs.Prelude.{◌≡◌, ◌<◌, not, ◌&&◌, length};
 ghost use Rattle.arrayvec.specs.ArrayVec.{array_vec_len};
 ghost use Rattle.chains.specs.NameBytes.{name_bytes};
 ghost use Rattle.chains.specs.Reading.{sector_at, usable};
@@ -28,7 +28,6 @@ impl<D: ReadingDevice> Scan<'_, D> {
         requires few { array_vec_len self.old.names < 96 }
         requires there { descriptor.now ≡ sector_at (disk_of self.old.disk) place.now.at }
         ensures scans { Scans (records_from (disk_of self.old.disk) place.now.at (name_bytes place.now.name) (seen_of self.old)) result self.new }
-        ensures count { array_vec_len self.new.names ≤ array_vec_len self.old.names + 1 }
         ensures same { Keeps self.old.disk self.new.disk }
     {
         let count = word_at(&descriptor.bytes, 4);
@@ -49,7 +48,6 @@ impl<D: ReadingDevice> Scan<'_, D> {
         requires few { array_vec_len self.old.names < 96 }
         requires within { place.now.at < length (disk_of self.old.disk) }
         ensures scans { Scans (descriptor_from (disk_of self.old.disk) place.now.at (name_bytes place.now.name) bytes.now (seen_of self.old)) result self.new }
-        ensures count { array_vec_len self.new.names ≤ array_vec_len self.old.names + 1 }
         ensures same { Keeps self.old.disk self.new.disk }
     {
         let descriptor = self.disk.fetch(place.at)?;
@@ -66,7 +64,7 @@ impl<D: ReadingDevice> Scan<'_, D> {
     fn is_fit(&self, place: &Place) -> bool
         ensures { result ≡ (not ((seen_of self.now).names (name_bytes place.now.name)) && usable (disk_of self.now.disk) place.now.at) }
     {
-        !place.name.is_among(&self.names) && RESERVED <= place.at && place.at < self.disk.size
+        !self.names.contains(&place.name) && (RESERVED..self.disk.size).contains(&place.at)
     }
 
     // Takes the name and the descriptor's sector from the bytes of a place, and notes that sector.
@@ -91,7 +89,6 @@ impl<D: ReadingDevice> Scan<'_, D> {
     fn read_file(&mut self, from: u16, bytes: &[u8; 40]) -> Result<(), Fault>
         requires { array_vec_len self.old.names < 96 }
         ensures scans { Scans (file_on (disk_of self.old.disk) (seen_of self.old) from bytes.now) result self.new }
-        ensures count { array_vec_len self.new.names ≤ array_vec_len self.old.names + 1 }
         ensures same { Keeps self.old.disk self.new.disk }
     {
         let place = self.enter_file(from, bytes)?;
@@ -102,7 +99,6 @@ impl<D: ReadingDevice> Scan<'_, D> {
     pub(crate) fn read_place(&mut self, from: u16, bytes: &[u8; 40]) -> Result<(), Fault>
         requires { array_vec_len self.old.names < 96 }
         ensures scans { Scans (place_on (disk_of self.old.disk) (seen_of self.old) from bytes.now) result self.new }
-        ensures count { array_vec_len self.new.names ≤ array_vec_len self.old.names + 1 }
         ensures same { Keeps self.old.disk self.new.disk }
     {
         if all_zero(bytes) {

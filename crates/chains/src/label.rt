@@ -1,6 +1,5 @@
 // The label: the disk's ID and its size, as text.
-ghost use Rattle.std.specs.Prelude.{◌≡◌, ℕ, ◌+◌, ◌<◌, ◌≤◌, List, ◌++◌, length, take, if◌then◌else◌, nat_lt};
-ghost use Rattle.chains.specs.Layout.{padded, decimal};
+ghost use Rattle.std.specs.Prelude.{◌≡◌, ◌<◌, ◌≤◌, length};
 ghost use Rattle.chains.specs.Fresh.{label_sector};
 ghost use Rattle.chains.specs.Reading.{line};
 ghost use Rattle.chains.specs.Survey.{exact_label};

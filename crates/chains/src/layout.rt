@@ -5,37 +5,37 @@ ghost use Rattle.chains.specs.Layout.{null, sector, sized};
 use device::Sector;
 
 // The link that leads nowhere.
-pub const NULL_LINK: u16 = 0xFFFF;
+pub(crate) const NULL_LINK: u16 = 0xFFFF;
 
 // Label, map and directory: the sectors that no file uses.
 pub const RESERVED: u16 = 36;
 
-pub const MAP_START: u16 = 1;
+pub(crate) const MAP_START: u16 = 1;
 
-pub const MAP_SECTORS: u16 = 3;
+pub(crate) const MAP_SECTORS: u16 = 3;
 
 // How many sector numbers one map sector marks.
-pub const MAP_BITS: u16 = 1024;
+pub(crate) const MAP_BITS: u16 = 1024;
 
-pub const DIRECTORY_START: u16 = 4;
+pub(crate) const DIRECTORY_START: u16 = 4;
 
-pub const DIRECTORY_SECTORS: u16 = 32;
+pub(crate) const DIRECTORY_SECTORS: u16 = 32;
 
 // The places of the directory, three to a sector.
-pub const PLACES: u16 = 96;
+pub(crate) const PLACES: u16 = 96;
 
 // How many bytes of a name a place or a descriptor can hold.
 pub(crate) const NAME_BYTES: usize = 32;
 
 // The sizes that a disk can have.
-pub const LEAST_SECTORS: u16 = 64;
+pub(crate) const LEAST_SECTORS: u16 = 64;
 
-pub const MOST_SECTORS: u16 = 2464;
+pub(crate) const MOST_SECTORS: u16 = 2464;
 
 pub fn is_disk_size(sectors: u16) -> bool
     ensures { result ≡ sized sectors }
 {
-    LEAST_SECTORS <= sectors && sectors <= MOST_SECTORS
+    (LEAST_SECTORS..=MOST_SECTORS).contains(&sectors)
 }
 
 // A sector that no chain holds.

@@ -6,7 +6,7 @@ ghost use Rattle.chains.specs.Listings.{PlaceRead, listing, record_count, shown}
 use crate::descriptor::read_descriptor;
 use crate::layout::{DIRECTORY_START, PLACES};
 use crate::name::Name;
-use crate::place::{Place, parse_place};
+use crate::place::{Place, parse_place, places_in};
 use device::{Fault, ReadingDevice};
 
 // A file as its place in the directory and its descriptor show it.
@@ -35,8 +35,7 @@ impl FileEntry {
 fn place_in(bytes: &[u8; 128], p: u16) -> &[u8; 40]
     ensures { result.now ≡ take 40 (drop (40 * (p % 3)) bytes.now) }
 {
-    let (places, _) = bytes.as_chunks::<40>();
-    &places[(p % 3) as usize]
+    &places_in(bytes)[(p % 3) as usize]
 }
 
 // Place p of the directory, if it names a file.

@@ -1,22 +1,23 @@
 // Looking a name up in the directory.
-ghost use Rattle.std.specs.Prelude.{◌≡◌, ◌≤◌, false, length, Ok};
+ghost use Rattle.std.specs.Prelude.{◌≡◌, ◌≤◌, false, Ok};
 ghost use Rattle.chains.specs.Layout.{Layout};
 ghost use Rattle.chains.specs.Changes.{LaidOut, lookup_of};
 ghost use Rattle.chains.specs.Places.{lists, place_seen, sector_seen};
 
 use crate::bytes::{all_zero, word_at};
-use crate::layout::{DIRECTORY_SECTORS, DIRECTORY_START, NAME_BYTES};
+use crate::layout::{DIRECTORY_SECTORS, DIRECTORY_START};
+use crate::place::{name_in, places_in};
 use device::{Fault, ReadingDevice};
 
 // Where the directory lists a file, and the sector of its descriptor.
-#[derive(Clone, Copy)]
+#[derive(Clone, Copy, Debug, PartialEq, Eq)]
 pub struct Located {
     pub place: u16,
     pub descriptor: u16,
 }
 
 // What a look through the directory found: the file, if it is there, and the lowest empty place, if there is one.
-#[derive(Clone, Copy)]
+#[derive(Clone, Copy, Debug, PartialEq, Eq)]
 pub struct Lookup {
     pub file: Option<Located>,
     pub empty: Option<u16>,
@@ -26,11 +27,7 @@ pub struct Lookup {
 fn is_listed(bytes: &[u8; 40], name: &[u8]) -> bool
     ensures { result ≡ lists name.now bytes.now }
 {
-    let size = usize::from(bytes[0]);
-    if size > NAME_BYTES {
-        return false;
-    }
-    name == &bytes[1..1 + size]
+    Some(name) == name_in(bytes)
 }
 
 // What was found before place p, and in it.
@@ -40,8 +37,8 @@ fn look_in_place(before: Lookup, p: u16, bytes: &[u8; 40], name: &[u8]) -> Looku
 {
     if all_zero(bytes) {
         return Lookup {
-            file: before.file,
             empty: before.empty.or(Some(p)),
+            ..before
         };
     }
     if !is_listed(bytes, name) {
@@ -53,7 +50,7 @@ fn look_in_place(before: Lookup, p: u16, bytes: &[u8; 40], name: &[u8]) -> Looku
     };
     Lookup {
         file: before.file.or(Some(here)),
-        empty: before.empty,
+        ..before
     }
 }
 
@@ -62,7 +59,7 @@ fn look_in_sector(before: Lookup, p: u16, bytes: &[u8; 128], name: &[u8]) -> Loo
     requires { p ≤ 96 }
     ensures { result ≡ sector_seen name.now before p bytes.now }
 {
-    let (places, _) = bytes.as_chunks::<40>();
+    let places = places_in(bytes);
     let mut seen = before;
     for (k, place) in places.iter().enumerate() {
         seen = look_in_place(seen, p + k as u16, place, name);

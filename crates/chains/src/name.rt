@@ -1,7 +1,6 @@
 // File names and disk IDs.
-ghost use Rattle.std.specs.Prelude.{◌≡◌, ◌≤◌, not, ◌&&◌, [], length, take, ◌==◌, map, nat_le};
-ghost use Rattle.chains.specs.Names.{all, legal, legal_id, letter, name_character, spelled};
-ghost use Rattle.chains.specs.Reading.{among};
+ghost use Rattle.std.specs.Prelude.{◌≡◌, ◌≤◌, [], length, take};
+ghost use Rattle.chains.specs.Names.{all, id_character, legal, legal_id, letter, name_character, spelled};
 
 use crate::bytes::put;
 use crate::layout::NAME_BYTES;
@@ -11,7 +10,6 @@ use crate::layout::NAME_BYTES;
 pub struct Name {
     bytes: [u8; 32],
     size: u8,
-    ghost long: { length bytes ≡ 32 },
     ghost short: { size ≤ 32 },
 }
 
@@ -44,14 +42,25 @@ impl Name {
     {
         &self.bytes[..self.size as usize]
     }
+}
 
-    pub(crate) fn is_among(&self, names: &[Name]) -> bool
-        ensures { result ≡ among (name_bytes self.now) (map name_bytes names.now) }
-    {
-        names.iter().any(|known| self.bytes() == known.bytes())
+// By the bytes of the name: what stands past them does not count.
+impl PartialEq for Name {
+    ghost use Rattle.std.proofs.Common.{rules};
+    ghost use Rattle.std.specs.Cmp.Rules.{comparing};
+    ghost use Rattle.chains.specs.Names.{same};
+    ghost use Rattle.chains.specs.NameBytes.{name_bytes};
+
+    ghost eq = { λ a b. same (name_bytes a) (name_bytes b) };
+
+    ghost laws = { Prim.search (comparing, rules) };
+
+    fn eq(&self, other: &Name) -> bool {
+        self.bytes() == other.bytes()
     }
 }
 
+// For the ArrayVec of the names that were met.
 impl Default for Name {
     ghost use Rattle.chains.specs.NameBytes.{name_bytes};
 
@@ -74,6 +83,7 @@ fn is_name_character(c: u8) -> bool
     is_letter(c) || c.is_ascii_digit() || matches!(c, b'?' | b'_' | b'.')
 }
 
+// This and `are_id_characters` are functions of their own because the check proves them so without help, and not within their callers.
 fn are_name_characters(bytes: &[u8]) -> bool
     ensures { result ≡ all name_character bytes.now }
 {
@@ -97,13 +107,13 @@ pub fn is_legal_name(name: &[u8]) -> bool
 }
 
 fn is_id_character(c: u8) -> bool
-    ensures { result ≡ (nat_le 0x20 c && (nat_le c 0x7E && not (c == 0x3B))) }
+    ensures { result ≡ id_character c }
 {
-    0x20 <= c && c <= 0x7E && c != b';'
+    (0x20..=0x7E).contains(&c) && c != b';'
 }
 
 fn are_id_characters(id: &[u8]) -> bool
-    ensures { result ≡ all (λ c. nat_le 0x20 c && (nat_le c 0x7E && not (c == 0x3B))) id.now }
+    ensures { result ≡ all id_character id.now }
 {
     id.iter().all(|c| is_id_character(*c))
 }

@@ -1,5 +1,6 @@
 // A place of the directory: a file's name and the sector of its descriptor.
-ghost use Rattle.std.specs.Prelude.{◌≡◌, ◌≤◌, true, false, ◌&&◌, ◌∷◌, ◌++◌, length, replicate, MatchOption};
+ghost use Rattle.std.specs.Prelude.{◌≡◌, ◌<◌, ◌≤◌, true, false, ◌&&◌, ◌∷◌, ◌++◌, length, replicate, MatchOption, slice_index};
+ghost use Rattle.std.specs.Simd.{first_chunks};
 ghost use Rattle.chains.specs.Names.{legal};
 ghost use Rattle.chains.specs.Layout.{padded, word};
 ghost use Rattle.chains.specs.NameBytes.{name_bytes};
@@ -27,15 +28,30 @@ pub(crate) fn place_bytes(name: &[u8], at: u16) -> [u8; 40]
     bytes
 }
 
-// The place that 40 bytes are, if its name is legal. An Option and no TryFrom: there is no error to tell of.
-pub(crate) fn parse_place(bytes: &[u8; 40]) -> Option<Place>
-    ensures { MatchOption result ((well_formed_place bytes.now && legal (name_in bytes.now)) ≡ false) (λ p. ((well_formed_place bytes.now && legal (name_in bytes.now)) ≡ true) × (name_bytes p.name ≡ name_in bytes.now) × (p.at ≡ address_in bytes.now)) }
+// The three places in the bytes of their sector.
+pub(crate) fn places_in(bytes: &[u8; 128]) -> &[[u8; 40]]
+    ensures { result.now ≡ first_chunks 40 3 bytes.now }
+{
+    let (places, _) = bytes.as_chunks();
+    places
+}
+
+// The name in the bytes of a place, if there is room for one so long.
+pub(crate) fn name_in(bytes: &[u8; 40]) -> Option<&[u8]>
+    ensures { MatchOption result (32 < slice_index bytes.now 0) (λ n. (slice_index bytes.now 0 ≤ 32) × (n.now ≡ name_in bytes.now)) }
 {
     let size = usize::from(bytes[0]);
     if size > NAME_BYTES {
         return None;
     }
-    let name = &bytes[1..1 + size];
+    Some(&bytes[1..1 + size])
+}
+
+// The place that 40 bytes are, if its name is legal. An Option and no TryFrom: there is no error to tell of.
+pub(crate) fn parse_place(bytes: &[u8; 40]) -> Option<Place>
+    ensures { MatchOption result ((well_formed_place bytes.now && legal (name_in bytes.now)) ≡ false) (λ p. ((well_formed_place bytes.now && legal (name_in bytes.now)) ≡ true) × (name_bytes p.name ≡ name_in bytes.now) × (p.at ≡ address_in bytes.now)) }
+{
+    let name = name_in(bytes)?;
     if !is_legal_name(name) {
         return None;
     }

@@ -1,7 +1,6 @@
 // A disk that is being read, and what was met on it so far.
-ghost use Rattle.std.specs.Prelude.{◌≡◌, ◌<◌, length, IfOk, Ok};
+ghost use Rattle.std.specs.Prelude.{◌≡◌, ◌<◌, length, Ok};
 ghost use Rattle.std.proofs.Props.{props};
-ghost use Rattle.device.specs.Device.{WellFormed};
 ghost use Rattle.chains.specs.Reading.{sector_at};
 ghost use Rattle.chains.specs.Readable.{Readable};
 
@@ -12,21 +11,20 @@ use freespace::{BitMap, SectorAllocator};
 
 // A disk that can be read, behind the device that holds it.
 #[derive(Drop)]
-pub(crate) struct OpenDisk<'a, D: ReadingDevice> {
+pub(crate) struct ReadableDisk<'a, D: ReadingDevice> {
     pub(crate) device: &'a mut D,
     pub(crate) size: u16,
     ghost ready: { Readable (D.ReadingDevice.medium device.now) } by { Prim.hlevel props },
     ghost sized: { size ≡ length (D.ReadingDevice.medium device.now).sectors },
 }
 
-impl<D: ReadingDevice> OpenDisk<'_, D> {
+impl<D: ReadingDevice> ReadableDisk<'_, D> {
     ghost use Rattle.chains.specs.Scans.{Keeps, disk_of};
 
     // Reads a sector where the device cannot refuse.
     pub(crate) fn fetch(&mut self, n: u16) -> Result<Sector, Fault>
         requires { n < self.old.size }
         ensures value { result ≡ Ok (sector_at (disk_of self.old) n) }
-        ensures whole { IfOk result WellFormed }
         ensures same { Keeps self.old self.new }
     {
         self.device.read(n)
@@ -36,7 +34,7 @@ impl<D: ReadingDevice> OpenDisk<'_, D> {
 // The disk, and the sectors and names met so far.
 #[derive(Drop)]
 pub(crate) struct Scan<'a, D: ReadingDevice> {
-    pub(crate) disk: OpenDisk<'a, D>,
+    pub(crate) disk: ReadableDisk<'a, D>,
     pub(crate) met: BitMap,
     pub(crate) names: ArrayVec<Name, 96>,
     ghost spans: { met.sectors ≡ disk.size },
@@ -47,7 +45,7 @@ impl<'a, D: ReadingDevice> Scan<'a, D> {
     ghost use Rattle.chains.specs.Scans.{seen_of};
 
     // Nothing is met yet.
-    pub(crate) fn new(disk: OpenDisk<'a, D>) -> Self
+    pub(crate) fn new(disk: ReadableDisk<'a, D>) -> Self
         ensures disk { result.disk ≡ disk.entry }
         ensures seen { seen_of result ≡ nothing_seen }
     {

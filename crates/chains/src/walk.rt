@@ -13,7 +13,7 @@ use device::{Code, Fault, ReadingDevice};
 use freespace::SectorAllocator;
 
 // A sector, and the sector that its forward link names.
-#[derive(Clone, Copy)]
+#[derive(Clone, Copy, Debug, PartialEq, Eq)]
 pub(crate) struct Link {
     pub(crate) from: u16,
     pub(crate) to: u16,

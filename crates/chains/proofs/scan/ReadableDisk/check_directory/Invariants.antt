@@ -1,7 +1,7 @@
 use Rattle.std.proofs.Common.{◌≡◌, ◌-◌}
 use Rattle.chains.specs.Scans.{Keeps, disk_of}
 use Rattle.chains.specs.Survey.{directory_on}
-use Rattle.chains.proofs.scan.OpenDisk.check_directory.Given as goal
+use Rattle.chains.proofs.scan.ReadableDisk.check_directory.Given as goal
 
 -- what is left gives the whole
 abbrev pub invariant-loop-i : goal.invariant-loop-i

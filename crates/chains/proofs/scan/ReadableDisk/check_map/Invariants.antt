@@ -2,7 +2,7 @@ use Rattle.std.proofs.Common.{◌≡◌, ◌-◌, length}
 use Rattle.freespace.specs.Bits.{bit_of}
 use Rattle.chains.specs.Scans.{Keeps, disk_of}
 use Rattle.chains.specs.Survey.{map_on, to_be_marked}
-use Rattle.chains.proofs.scan.OpenDisk.check_map.Given as goal
+use Rattle.chains.proofs.scan.ReadableDisk.check_map.Given as goal
 
 -- what is left gives the whole
 abbrev pub invariant-loop-j : goal.invariant-loop-j

@@ -6,7 +6,7 @@ use Rattle.chains.specs.Survey.{to_be_marked}
 use Rattle.chains.proofs.Keeping.{keeps_on, fetched_from}
 use Rattle.chains.proofs.CheckParts.{map_more}
 use Rattle.chains.proofs.Tests.{unlike}
-use Rattle.chains.proofs.scan.OpenDisk.check_map.Goals as goal
+use Rattle.chains.proofs.scan.ReadableDisk.check_map.Goals as goal
 
 pub returns-then-ne-clause-value : goal.returns-then-ne-clause-value
 returns-then-ne-clause-value g c =
