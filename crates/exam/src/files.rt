@@ -3,7 +3,15 @@ ghost use Rattle.std.specs.Prelude.{◌≡◌, ◌*◌, ◌%◌, IfOk, IsNone, I
 
 use anyhow::anyhow;
 use device::FlatImage;
+use std::alloc::{AllocError, Global};
 use std::fs;
+
+// The bytes of a blank image of so many sectors.
+pub fn blank(heap: Global, sectors: u16) -> Result<Vec<u8>, AllocError>
+    ensures { IfOk result (λ v. vec_items v ≡ replicate (132 * sectors) 0) }
+{
+    vec![in heap; 0; 132 * sectors as usize]
+}
 
 // The bytes of an image file, which are whole frames.
 pub fn read_image(rt: &HostRuntime, path: &str) -> anyhow::Result<Vec<u8>>
@@ -28,7 +36,7 @@ pub fn image_at(rt: &HostRuntime, path: Option<&str>) -> anyhow::Result<Vec<u8>>
     ensures empty { IsNone path.entry → IfOk result (λ v. vec_items v ≡ replicate (64 * 132) 0) }
 {
     match path {
-        None => Ok(vec![in rt.alloc(); 0; 64 * 132]?),
+        None => Ok(blank(rt.alloc(), 64)?),
         Some(path) => read_image(rt, path),
     }
 }

@@ -4,5 +4,5 @@
 mod files;
 mod requests;
 
-pub use files::{image_at, keep_at, read_image};
-pub use requests::take_exam;
+pub use files::{blank, image_at, keep_at, read_image};
+pub use requests::{exam_text, take_exam};

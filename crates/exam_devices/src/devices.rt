@@ -1,14 +1,9 @@
 // The exam: a list of requests, served on a disk image and on other devices.
 use device::{FlatImage, JoinedPair, ReadingDevice, Skewed, WritingDevice, place};
 use drive::{Exchange, reopen};
-use exam::{image_at, keep_at, take_exam};
+use exam::{blank, exam_text, image_at, keep_at, take_exam};
 use freespace::{BitMap, FreeList, SectorAllocator};
-use report::{answer_line, disk_lines, exchanges_lines, place_line, same_answers, usage_line};
-use std::alloc::Global;
-
-fn blank(heap: Global, sectors: u16) -> anyhow::Result<FlatImage> {
-    Ok(FlatImage::new(vec![in heap; 0; 132 * sectors as usize]?))
-}
+use report::{answer_line, place_line, same_answers, usage_line};
 
 // Whether the same list is answered in the same way over another device.
 fn compare<D: WritingDevice + Drop, A: SectorAllocator + Drop>(
@@ -32,8 +27,10 @@ fn compare<D: WritingDevice + Drop, A: SectorAllocator + Drop>(
 fn compare_others(rt: &HostRuntime, sectors: u16, expected: &[Exchange]) -> anyhow::Result<()> {
     let heap = rt.alloc();
     let half = sectors / 2;
-    let pair = JoinedPair::new(blank(heap, half)?, blank(heap, sectors - half)?);
-    let skewed = Skewed::new(blank(heap, sectors)?);
+    let first = FlatImage::new(blank(heap, half)?);
+    let second = FlatImage::new(blank(heap, sectors - half)?);
+    let pair = JoinedPair::new(first, second);
+    let skewed = Skewed::new(FlatImage::new(blank(heap, sectors)?));
     let line = place_line(heap, 33, place(sectors, 33))?;
     println!(rt; "\nOther devices:")?;
     compare(rt, "two joined images", pair, BitMap::new(), expected)?;
@@ -63,12 +60,9 @@ fn read_again(rt: &HostRuntime, image: FlatImage) -> anyhow::Result<FlatImage> {
 
 // Serves the list on the image, prints what came of it, and keeps the image.
 pub(crate) fn exam(rt: &HostRuntime, path: Option<&str>) -> anyhow::Result<()> {
-    let heap = rt.alloc();
     let image = FlatImage::new(image_at(rt, path)?);
-    let (mut image, exchanges) = take_exam(heap, image, BitMap::new())?;
-    let served = exchanges_lines(heap, exchanges.as_slice())?;
-    let disk = disk_lines(heap, &mut image)?;
-    print!(rt; "{served}{disk}")?;
+    let (image, exchanges, text) = exam_text(rt.alloc(), image, BitMap::new())?;
+    print!(rt; "{text}")?;
     let image = read_again(rt, image)?;
     compare_others(rt, image.count(), exchanges.as_slice())?;
     keep_at(rt, path, image.into_bytes().as_slice())

@@ -27,18 +27,15 @@ A sound one is then initialised in a drive, which tells its usage.";
 
 fn start(rt: &HostRuntime) -> anyhow::Result<()> {
     let words: Vec<String> = env::args(rt)?.skip(1).collect(rt.alloc())?;
-    let mut rest = words.as_slice();
-    let mut image = None;
-    if let [first, others @ ..] = rest {
-        match first.as_str() {
+    let words = words.as_slice();
+    let (image, rest) = match words.split_first() {
+        None => (None, words),
+        Some((first, others)) => match first.as_str() {
             "--help" | "-h" => return Ok(println!(rt; "{HELP}")?),
-            "--examine" => {}
-            path => {
-                image = Some(path);
-                rest = others;
-            }
-        }
-    }
+            "--examine" => (None, words),
+            path => (Some(path), others),
+        },
+    };
     exam(rt, image)?;
     match rest {
         [] => Ok(()),

@@ -3,9 +3,8 @@
 
 use anyhow::anyhow;
 use device::FlatImage;
-use exam::{image_at, keep_at, take_exam};
+use exam::{exam_text, image_at, keep_at};
 use freespace::BitMap;
-use report::{disk_lines, exchanges_lines};
 use std::env;
 
 const HELP: &str = "usage: exam_disk [IMAGE]
@@ -20,12 +19,9 @@ sectors in memory.";
 
 // Serves the list on the image, prints what came of it, and keeps the image.
 fn exam(rt: &HostRuntime, path: Option<&str>) -> anyhow::Result<()> {
-    let heap = rt.alloc();
     let image = FlatImage::new(image_at(rt, path)?);
-    let (mut image, exchanges) = take_exam(heap, image, BitMap::new())?;
-    let served = exchanges_lines(heap, exchanges.as_slice())?;
-    let disk = disk_lines(heap, &mut image)?;
-    print!(rt; "{served}{disk}")?;
+    let (image, _, text) = exam_text(rt.alloc(), image, BitMap::new())?;
+    print!(rt; "{text}")?;
     keep_at(rt, path, image.into_bytes().as_slice())
 }
 

@@ -1,6 +1,7 @@
 // What tests share: blank images, what is read and written, and what is expected of it.
 use device::{Code, Fault, FlatImage, ReadingDevice, Sector, WritingDevice};
-use drive::Usage;
+use drive::{Answer, Drive, Usage};
+use freespace::SectorAllocator;
 use std::alloc::Global;
 use std::test::Fail;
 
@@ -9,6 +10,13 @@ pub(crate) const OF_NEW_DISK: Usage = Usage {
     free: 28,
     used: 36,
     files: 0,
+};
+
+// What the tests write.
+pub(crate) const WRITTEN: Sector = Sector {
+    bytes: [9; 128],
+    back: 0x0102,
+    forward: 0xFFFE,
 };
 
 pub(crate) fn expect(holds: bool, otherwise: &str) -> Result<(), Fail> {
@@ -48,4 +56,16 @@ pub(crate) fn number<T: Drop>(answer: Result<T, Fault>) -> u8 {
 // What a read of sector n and a write of this sector to it answer.
 pub(crate) fn numbers<D: WritingDevice>(device: &mut D, n: u16, sector: &Sector) -> (u8, u8) {
     (number(device.read(n)), number(device.write(n, sector)))
+}
+
+// The device back from a drive that formatted it, what FORMAT answered, and what STATUS answered then.
+pub(crate) fn formatted<D: WritingDevice + Drop, A: SectorAllocator + Drop>(
+    device: D,
+    allocator: A,
+    id: &[u8],
+) -> (D, Answer, (Answer, Usage)) {
+    let mut drive = Drive::new(device, allocator);
+    let answer = drive.format(id);
+    let status = drive.status();
+    (drive.release(), answer, status)
 }

@@ -1,26 +1,13 @@
 // Free lists, and a device and an allocator of another crate.
-use crate::access::{OF_NEW_DISK, blank};
-use device::{ReadingDevice, Sector, WritingDevice};
-use drive::{Drive, Usage};
+use crate::access::{OF_NEW_DISK, blank, formatted};
+use device::{ReadingDevice, Sector};
 use freespace::{FreeList, SectorAllocator, fill_from};
 use plain::{NumberList, SectorArray};
 use std::test::Fail;
 
-// What STATUS tells after FORMAT, on any device and with any allocator.
-fn usage_when_new<D: WritingDevice + Drop, A: SectorAllocator + Drop>(
-    device: D,
-    allocator: A,
-) -> Usage {
-    let mut drive = Drive::new(device, allocator);
-    let _ = drive.format(b"EXAM 1");
-    let (_, usage) = drive.status();
-    let _ = drive.release();
-    usage
-}
-
 #[test]
 fn serves_a_flat_image_with_a_free_list(rt: HostRuntime) -> Result<(), Fail> {
-    let usage = usage_when_new(blank(rt.alloc(), 64)?, FreeList::new());
+    let (_, _, (_, usage)) = formatted(blank(rt.alloc(), 64)?, FreeList::new(), b"EXAM 1");
     assert_eq!(rt; usage, OF_NEW_DISK);
     Ok(())
 }
@@ -34,7 +21,7 @@ fn serves_a_sector_array_with_a_number_list(rt: HostRuntime) -> Result<(), Fail>
     };
     let sectors = vec![in rt.alloc(); empty; 64]?;
     let allocator = NumberList::new(rt.alloc())?;
-    let usage = usage_when_new(SectorArray::new(sectors), allocator);
+    let (_, _, (_, usage)) = formatted(SectorArray::new(sectors), allocator, b"EXAM 1");
     assert_eq!(rt; usage, OF_NEW_DISK);
     Ok(())
 }

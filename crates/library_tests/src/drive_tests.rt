@@ -1,5 +1,5 @@
 // Whole drives.
-use crate::access::{OF_NEW_DISK, blank, read_sector};
+use crate::access::{OF_NEW_DISK, blank, formatted, read_sector};
 use device::FlatImage;
 use drive::Drive;
 use freespace::BitMap;
@@ -8,9 +8,7 @@ use std::test::Fail;
 
 // The number of FORMAT's code on a disk of so many sectors.
 fn format_code(heap: Global, sectors: u16, id: &[u8]) -> Result<u8, Fail> {
-    let mut drive = Drive::new(blank(heap, sectors)?, BitMap::new());
-    let answer = drive.format(id);
-    let _ = drive.release();
+    let (_, answer, _) = formatted(blank(heap, sectors)?, BitMap::new(), id);
     Ok(u8::from(answer.code))
 }
 
@@ -53,9 +51,7 @@ fn status_tells_the_numbers_of_a_new_disk(rt: HostRuntime) -> Result<(), Fail> {
 #[test]
 fn format_leaves_the_rest_alone(rt: HostRuntime) -> Result<(), Fail> {
     let bytes = vec![in rt.alloc(); 7; 132 * 64]?;
-    let mut drive = Drive::new(FlatImage::new(bytes), BitMap::new());
-    let _ = drive.format(b"EXAM 1");
-    let mut image = drive.release();
+    let (mut image, _, _) = formatted(FlatImage::new(bytes), BitMap::new(), b"EXAM 1");
     let map = read_sector(&mut image, 1)?;
     assert_eq!(rt; map.bytes[3], 0xFF);
     assert_eq!(rt; map.bytes[4], 0x0F);

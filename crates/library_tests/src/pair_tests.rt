@@ -4,18 +4,10 @@ ghost use Rattle.device.specs.declared.fault.Code.TheVariants.{InvalidOperation}
 ghost use Rattle.device.specs.Device.{Medium, device_fault, fetched, stored};
 ghost use Rattle.device.specs.Joined.{joined};
 
-use crate::access::{OF_NEW_DISK, blank, number, numbers, read_sector};
-use device::{JoinedPair, ReadingDevice, Sector, WritingDevice};
-use drive::Drive;
+use crate::access::{OF_NEW_DISK, WRITTEN, blank, formatted, number, numbers, read_sector};
+use device::{JoinedPair, ReadingDevice, WritingDevice};
 use freespace::{BitMap, SectorAllocator};
 use std::test::Fail;
-
-// What the tests write.
-const WRITTEN: Sector = Sector {
-    bytes: [9; 128],
-    back: 0x0102,
-    forward: 0xFFFE,
-};
 
 #[test]
 fn a_pair_with_an_empty_first(rt: HostRuntime) -> Result<(), Fail> {
@@ -58,12 +50,9 @@ fn one_door_or_tab_closes_both(rt: HostRuntime) -> Result<(), Fail> {
 fn a_drive_over_a_pair(rt: HostRuntime) -> Result<(), Fail> {
     let heap = rt.alloc();
     let pair = JoinedPair::new(blank(heap, 32)?, blank(heap, 32)?);
-    let mut drive = Drive::new(pair, BitMap::new());
-    let formatted = drive.format(b"EXAM 1");
-    let (answer, usage) = drive.status();
-    let _ = drive.release();
-    assert_eq!(rt; u8::from(formatted.code), 0x80);
+    let (_, answer, (status, usage)) = formatted(pair, BitMap::new(), b"EXAM 1");
     assert_eq!(rt; u8::from(answer.code), 0x80);
+    assert_eq!(rt; u8::from(status.code), 0x80);
     assert_eq!(rt; usage, OF_NEW_DISK);
     Ok(())
 }

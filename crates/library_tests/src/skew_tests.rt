@@ -1,20 +1,22 @@
 // Sectors that lie skewed.
-use crate::access::{OF_NEW_DISK, blank, expect, number, read_sector, write_sector};
+use crate::access::{OF_NEW_DISK, blank, expect, formatted, number, read_sector, write_sector};
 use device::{FlatImage, ReadingDevice, Sector, Skewed, place};
-use drive::Drive;
 use freespace::{BitMap, SectorAllocator};
 use std::alloc::Global;
 use std::test::Fail;
 
-// Writes to each sector its number.
+// What is written to sector n.
+fn numbered(n: u16) -> Sector {
+    Sector {
+        bytes: [(n % 256) as u8; 128],
+        back: n,
+        forward: 0xFFFF,
+    }
+}
+
 fn number_sectors(device: &mut Skewed<FlatImage>, sectors: u16) -> Result<(), Fail> {
     for n in 0..sectors {
-        let sector = Sector {
-            bytes: [(n % 256) as u8; 128],
-            back: n,
-            forward: 0xFFFF,
-        };
-        write_sector(device, n, &sector)?;
+        write_sector(device, n, &numbered(n))?;
     }
     Ok(())
 }
@@ -22,11 +24,7 @@ fn number_sectors(device: &mut Skewed<FlatImage>, sectors: u16) -> Result<(), Fa
 fn check_read_back(device: &mut Skewed<FlatImage>, sectors: u16) -> Result<(), Fail> {
     for n in 0..sectors {
         let sector = read_sector(device, n)?;
-        expect(
-            sector.bytes == [(n % 256) as u8; 128],
-            "other bytes are read",
-        )?;
-        expect(sector.back == n, "another back link is read")?;
+        expect(sector == numbered(n), "another sector is read")?;
     }
     Ok(())
 }
@@ -54,13 +52,10 @@ fn check_size(heap: Global, sectors: u16) -> Result<(), Fail> {
 #[test]
 fn reads_back_what_it_wrote_at_every_size(rt: HostRuntime) -> Result<(), Fail> {
     let heap = rt.alloc();
-    check_size(heap, 0)?;
-    check_size(heap, 1)?;
-    check_size(heap, 31)?;
-    check_size(heap, 32)?;
-    check_size(heap, 33)?;
-    check_size(heap, 63)?;
-    check_size(heap, 64)
+    for sectors in [0, 1, 31, 32, 33, 63, 64] {
+        check_size(heap, sectors)?;
+    }
+    Ok(())
 }
 
 #[test]
@@ -80,10 +75,8 @@ fn moves_only_within_whole_tracks(rt: HostRuntime) {
 // The map, sector 1, lies at 5 on the lower disk.
 #[test]
 fn a_drive_works_over_a_skewed_disk(rt: HostRuntime) -> Result<(), Fail> {
-    let mut drive = Drive::new(Skewed::new(blank(rt.alloc(), 64)?), BitMap::new());
-    let answer = drive.format(b"EXAM 1");
-    let (_, usage) = drive.status();
-    let mut device = drive.release();
+    let skewed = Skewed::new(blank(rt.alloc(), 64)?);
+    let (mut device, answer, (_, usage)) = formatted(skewed, BitMap::new(), b"EXAM 1");
     assert_eq!(rt; u8::from(answer.code), 0x80);
     assert_eq!(rt; usage, OF_NEW_DISK);
     let map = read_sector(&mut device, 1)?;

@@ -27,7 +27,8 @@ fn sector_bytes<D: ReadingDevice>(
     Ok(bytes)
 }
 
-// The links of the sectors from first up to end, a line each.
+// The links of the sectors from first up to end, a line each. Its loop is not shared with sector_bytes: a closure that appends
+// to the one or the other buffer, and its laws, are longer than the loop.
 fn sector_links<D: ReadingDevice>(
     heap: Global,
     device: &mut D,

@@ -34,7 +34,7 @@ fn mark(map: &[u8], n: usize) -> char
     requires { n < 8 * length map.now }
     ensures { result ≡ map_mark map.now n }
 {
-    if (map[n / 8] >> (n % 8)) % 2 == 1 {
+    if (map[n / 8] >> (n % 8)) & 1 == 1 {
         '#'
     } else {
         '.'

@@ -1,4 +1,4 @@
-// What a drive was asked and what it answered, each on one line: functions and no `Display`, since the types are of other crates.
+// Answers, requests, numbers, links, places and files, each on one line: functions and no `Display`, since the types are of other crates.
 #![tactic(auto, using(crate::proofs::Digits::decimal_base_ten, crate::proofs::Digits::padded_hex_byte, crate::proofs::Digits::padded_hex_word))]
 
 ghost use Rattle.std.specs.Prelude.{◌≡◌, map, IfOk, string_bytes};
