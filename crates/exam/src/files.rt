@@ -18,10 +18,10 @@ pub fn read_image(rt: &HostRuntime, path: &str) -> anyhow::Result<Vec<u8>>
     ensures { IfOk result (λ v. length (vec_items v) % 132 ≡ 0) }
 {
     let heap = rt.alloc();
-    let bytes = match fs::read(rt, path) {
-        Ok(bytes) => bytes,
-        Err(error) => return Err(anyhow!(format!(in heap; "cannot read {path}: {error}")?)),
-    };
+    let bytes = fs::read(rt, path).try_map_err(|error| {
+        let message = format!(in heap; "cannot read {path}: {error}")?;
+        Ok(anyhow!(message))
+    })?;
     if !FlatImage::is_whole(bytes.as_slice()) {
         return Err(anyhow!(format!(in heap;
             "{path} is no image: its size is not a multiple of 132 bytes"
@@ -48,8 +48,9 @@ pub fn keep_at(rt: &HostRuntime, path: Option<&str>, image: &[u8]) -> anyhow::Re
     let Some(path) = path else {
         return Ok(());
     };
-    match fs::write(rt, path, image) {
-        Ok(()) => Ok(()),
-        Err(error) => Err(anyhow!(format!(in rt.alloc(); "cannot write {path}: {error}")?)),
-    }
+    let heap = rt.alloc();
+    fs::write(rt, path, image).try_map_err(|error| {
+        let message = format!(in heap; "cannot write {path}: {error}")?;
+        Ok(anyhow!(message))
+    })
 }
