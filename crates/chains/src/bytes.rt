@@ -25,7 +25,7 @@ pub(crate) fn word_at(bytes: &[u8], i: usize) -> u16
     u16::from_le_bytes([bytes[i], bytes[i + 1]])
 }
 
-// Writes a part at `at`, before zeros; answers where the next part begins.
+// Writes a part at `at`, before zeros; answers where the next part begins. What it promises is of text before zeros, and of no frame.
 pub(crate) fn put(bytes: &mut [u8], at: usize, part: &[u8]) -> usize
     requires { at + length part.now ≤ length bytes.old }
     ensures next { result ≡ at + length part.now }

@@ -9,8 +9,8 @@ ghost use Rattle.chains.specs.Scans.{Keeps, disk_of};
 use crate::directory::is_directory_frame;
 use crate::fault::structure_fault;
 use crate::label::is_exact_label;
-use crate::layout::{DIRECTORY_SECTORS, DIRECTORY_START, MAP_SECTORS, MAP_START, RESERVED};
-use crate::map::{Marks, map_bytes};
+use crate::layout::{DIRECTORY_SECTORS, DIRECTORY_START, MAP_SECTORS, MAP_START};
+use crate::map::{FreshMarks, Marks, map_bytes};
 use crate::scan::ReadableDisk;
 use device::{Code, Fault, ReadingDevice};
 use freespace::{BitMap, SectorAllocator};
@@ -26,7 +26,7 @@ impl Marks for MetMarks<'_> {
     ghost marked = { λ f. to_be_marked f.size (bit_of f.met.now.bits) };
 
     fn is_marked(&self, n: u16) -> bool {
-        n < RESERVED || self.size <= n || self.met.contains(n)
+        FreshMarks { size: self.size }.is_marked(n) || self.met.contains(n)
     }
 }
 

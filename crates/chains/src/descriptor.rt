@@ -55,7 +55,7 @@ pub(crate) fn descriptor_sector(name: &[u8], fields: Descriptor) -> Sector
     }
 }
 
-// The fields in the bytes of a descriptor.
+// The fields in the bytes of a descriptor. Any 128 bytes have some, so this reads and is no conversion.
 fn parse_descriptor(bytes: &[u8; 128]) -> Descriptor
     ensures { result ≡ fields_in bytes.now }
 {

@@ -3,6 +3,7 @@ ghost use Rattle.std.specs.Prelude.{◌≡◌};
 ghost use Rattle.chains.specs.Layout.{null, sector, sized};
 
 use device::Sector;
+use freespace::LARGEST_SPAN;
 
 // The link that leads nowhere.
 pub(crate) const NULL_LINK: u16 = 0xFFFF;
@@ -30,7 +31,7 @@ pub(crate) const NAME_BYTES: usize = 32;
 // The sizes that a disk can have.
 pub(crate) const LEAST_SECTORS: u16 = 64;
 
-pub(crate) const MOST_SECTORS: u16 = 2464;
+pub(crate) const MOST_SECTORS: u16 = LARGEST_SPAN;
 
 pub fn is_disk_size(sectors: u16) -> bool
     ensures { result ≡ sized sectors }

@@ -7,7 +7,7 @@ use crate::layout::{MAP_BITS, RESERVED, unlinked};
 use device::Sector;
 use std::array;
 
-// Which sector numbers a map marks. Its impls all begin with the same two bounds; one type for them would need a trait more.
+// Which sector numbers a map marks.
 pub(crate) trait Marks {
     ghost marked: { Self → ℕ → Bool };
 

@@ -6,8 +6,8 @@ ghost use Rattle.chains.specs.Fresh.{written_over};
 ghost use Rattle.chains.specs.Changes.{LaidOut};
 ghost use Rattle.chains.specs.Saving.{marks_by, remapped, remapped_all, with_map};
 
-use crate::layout::{MAP_SECTORS, MAP_START, RESERVED};
-use crate::map::{Marks, map_bytes};
+use crate::layout::{MAP_SECTORS, MAP_START};
+use crate::map::{FreshMarks, Marks, map_bytes};
 use device::{Fault, ReadingDevice, Sector, WritingDevice};
 use freespace::SectorAllocator;
 
@@ -22,7 +22,7 @@ impl<'a, A: SectorAllocator> Marks for SpaceMarks<'a, A> {
     ghost marked = { λ s. marks_by s.size (A.SectorAllocator.member s.allocator.now) };
 
     fn is_marked(&self, n: u16) -> bool {
-        n < RESERVED || self.size <= n || !self.allocator.contains(n)
+        FreshMarks { size: self.size }.is_marked(n) || !self.allocator.contains(n)
     }
 }
 

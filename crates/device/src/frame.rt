@@ -50,6 +50,7 @@ fn put_data(bytes: &mut [u8], start: usize, data: &[u8])
     bytes[start..start + data.len()].copy_from_slice(data);
 }
 
+// The links are put as four bytes in one piece: two pieces would need one lemma more.
 pub(crate) fn put_frame(bytes: &mut [u8], n: usize, sector: &Sector)
     requires { 132 * n + 132 ≤ length bytes.old }
     ensures after { bytes.new ≡ with_frame bytes.old n sector.now }

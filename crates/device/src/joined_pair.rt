@@ -53,6 +53,7 @@ impl<F: WritingDevice, S: WritingDevice> JoinedPair<F, S> {
         }
     }
 
+    // Beside read_part and not one with it: the one answers a sector, the other takes one and changes a part.
     fn write_part(&mut self, n: u16, sector: &Sector) -> Result<(), Fault>
         requires within { n < length (joined_medium F.ReadingDevice S.ReadingDevice self.old).sectors }
         requires closed { (joined_medium F.ReadingDevice S.ReadingDevice self.old).door ≡ false }

@@ -10,7 +10,7 @@ fn same_exchange(a: &Exchange, b: &Exchange) -> bool
     a.answer == b.answer && a.reported == b.reported
 }
 
-// The same answers and numbers, one by one.
+// The same answers and numbers, one by one; exchanges have no equality of their own, since their requests may differ.
 pub fn same_answers(left: &[Exchange], right: &[Exchange]) -> bool
     ensures { result ≡ same_answers left.now right.now }
 {

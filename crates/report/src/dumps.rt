@@ -11,6 +11,7 @@ pub fn hex_line(heap: Global, at: u16, bytes: &[u8]) -> Result<String, AllocErro
     ensures { IfOk result (λ s. string_bytes s ≡ hex_line at bytes.now) }
 {
     let mut text = format!(in heap; "{at:04X} ")?;
+    // A loop, since each write can fail.
     for b in bytes {
         write!(text, " {b:02X}")?;
     }
@@ -57,7 +58,8 @@ fn map_line(heap: Global, first: u16, map: &[u8]) -> Result<String, AllocError>
     format!(in heap; "{first:04X}  {marks}\n")
 }
 
-// Sixty-four sectors a line, each line with the number of its first sector modulo 65,536.
+// Sixty-four sectors a line, each line with the number of its first sector modulo 65,536. One chain like hex_lines: a function for
+// both would take the line and its text.
 pub fn map_lines(heap: Global, map: &[u8]) -> Result<String, AllocError>
     ensures { IfOk result (λ s. string_bytes s ≡ map_text map.now) }
 {
