@@ -28,7 +28,7 @@ pub(crate) fn expect(holds: bool, otherwise: &str) -> Result<(), Fail> {
 }
 
 pub(crate) fn blank(heap: Global, sectors: u16) -> Result<FlatImage, Fail> {
-    Ok(FlatImage::new(vec![in heap; 0; 132 * sectors as usize]?))
+    Ok(FlatImage::new(exam::blank(heap, sectors)?))
 }
 
 pub(crate) fn read_sector<D: ReadingDevice>(device: &mut D, n: u16) -> Result<Sector, Fail> {

@@ -12,6 +12,8 @@ mod device_tests;
 #[cfg(test)]
 mod drive_tests;
 #[cfg(test)]
+mod exam_tests;
+#[cfg(test)]
 mod freespace_tests;
 #[cfg(test)]
 mod pair_tests;
