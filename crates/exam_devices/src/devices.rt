@@ -24,16 +24,16 @@ fn compare<D: WritingDevice + Drop, A: SectorAllocator + Drop>(
 }
 
 // The same list over two images joined as one disk, and over a skewed image with the other allocator.
+// Each is made when its turn comes and let go after it, so that there is one image more than the disk's own and not two.
 fn compare_others(rt: &HostRuntime, sectors: u16, expected: &[Exchange]) -> anyhow::Result<()> {
     let heap = rt.alloc();
     let half = sectors / 2;
+    println!(rt; "\nOther devices:")?;
     let first = FlatImage::new(blank(heap, half)?);
     let second = FlatImage::new(blank(heap, sectors - half)?);
     let pair = JoinedPair::new(first, second);
-    let skewed = Skewed::new(FlatImage::new(blank(heap, sectors)?));
-    let line = place_line(heap, 33, place(sectors, 33))?;
-    println!(rt; "\nOther devices:")?;
     compare(rt, "two joined images", pair, BitMap::new(), expected)?;
+    let skewed = Skewed::new(FlatImage::new(blank(heap, sectors)?));
     compare(
         rt,
         "a skewed image with a free list",
@@ -41,6 +41,7 @@ fn compare_others(rt: &HostRuntime, sectors: u16, expected: &[Exchange]) -> anyh
         FreeList::new(),
         expected,
     )?;
+    let line = place_line(heap, 33, place(sectors, 33))?;
     println!(rt; "{line}")?;
     Ok(())
 }
