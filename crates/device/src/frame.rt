@@ -14,7 +14,8 @@ pub(crate) fn count_sectors(bytes: &[u8]) -> u16
     ensures whole { AllByRecursion WellFormed (frames bytes.now) }
 {
     let whole = bytes.len() / 132;
-    whole.min(65535) as u16
+    // No `min`: after it the compiler copied each sector once more where one is read and written to another place.
+    u16::try_from(whole).unwrap_or(65535)
 }
 
 // Sector n of those.
