@@ -11,6 +11,7 @@ use crate::bytes::{all_zero, word_at};
 use crate::descriptor::{is_descriptor_shaped, is_named_as};
 use crate::fault::structure_fault;
 use crate::layout::{NULL_LINK, RESERVED};
+use crate::name::Name;
 use crate::place::{Place, parse_place};
 use crate::scan::Scan;
 use crate::walk::Link;
@@ -60,11 +61,18 @@ impl<D: ReadingDevice> Scan<'_, D> {
         self.read_records(place, &descriptor)
     }
 
+    // Whether a file of this name was met.
+    fn has_name(&self, name: &Name) -> bool
+        ensures { result ≡ (seen_of self.now).names (name_bytes name.now) }
+    {
+        self.names.contains(name)
+    }
+
     // Whether the name is new, and the descriptor lies where a file's sectors may.
     fn is_fit(&self, place: &Place) -> bool
         ensures { result ≡ (not ((seen_of self.now).names (name_bytes place.now.name)) && usable (disk_of self.now.disk) place.now.at) }
     {
-        !self.names.contains(&place.name) && (RESERVED..self.disk.size).contains(&place.at)
+        !self.has_name(&place.name) && (RESERVED..self.disk.size).contains(&place.at)
     }
 
     // Takes the name and the descriptor's sector from the bytes of a place, and notes that sector.
