@@ -1,6 +1,6 @@
 use Rattle.std.proofs.Common.{arith}
 use Rattle.drive.proofs.RunEnds.{all_served, none_served, run_from_new, served_next}
-use Rattle.drive.proofs.drive.Drive.serve_all.Goals as goal
+use Rattle.drive.proofs.drive.Drive.serve_each.Goals as goal
 
 pub loop-exchange-init : goal.loop-exchange-init
 loop-exchange-init g c = none_served g.D.ReadingDevice g.A.SectorAllocator _ _
