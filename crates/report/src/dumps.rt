@@ -1,19 +1,35 @@
 // What a sector and the map hold, line by line.
 #![tactic(auto, using(crate::proofs::Digits::decimal_base_ten, crate::proofs::Digits::padded_hex_byte, crate::proofs::Digits::padded_hex_word))]
 
-ghost use Rattle.std.specs.Prelude.{◌≡◌, ◌*◌, ◌<◌, ◌≤◌, length, IfOk, string_bytes};
+ghost use Rattle.std.specs.Prelude.{◌≡◌, ◌*◌, ◌<◌, ◌≤◌, [], ◌∷◌, length, IfOk, string_bytes};
+ghost use Rattle.std.proofs.Math.Utf8.{encode};
+ghost use Rattle.report.specs.Digits.{hex_digit};
 ghost use Rattle.report.specs.Text.{hex_line, hex_text, map_line, map_text, map_mark, marks};
 
 use std::alloc::{AllocError, Global};
+
+// A capital hexadecimal digit.
+fn hex_digit(n: u8) -> char
+    requires { n < 16 }
+    ensures { encode result ≡ hex_digit n ∷ [] }
+{
+    if n < 10 {
+        (b'0' + n) as char
+    } else {
+        (b'A' + (n - 10)) as char
+    }
+}
 
 // One line of bytes after the offset of its first.
 pub fn hex_line(heap: Global, at: u16, bytes: &[u8]) -> Result<String, AllocError>
     ensures { IfOk result (λ s. string_bytes s ≡ hex_line at bytes.now) }
 {
     let mut text = format!(in heap; "{at:04X} ")?;
-    // A loop, since each write can fail.
+    // A loop, since each push can fail; and no formatted write of each byte, which takes twice the time.
     for b in bytes {
-        write!(text, " {b:02X}")?;
+        text.push(' ')?;
+        text.push(hex_digit(*b / 16))?;
+        text.push(hex_digit(*b % 16))?;
     }
     text.push('\n')?;
     Ok(text)
@@ -21,6 +37,13 @@ pub fn hex_line(heap: Global, at: u16, bytes: &[u8]) -> Result<String, AllocErro
 
 // Sixteen bytes a line, each line with the offset of its first byte modulo 65,536.
 pub fn hex_lines(heap: Global, bytes: &[u8]) -> Result<String, AllocError>
+    ensures { IfOk result (λ s. string_bytes s ≡ hex_text bytes.now) }
+{
+    lines_of_sixteen(heap, bytes)
+}
+
+// The lines of all the bytes. `hex_lines` hands on to it and has no proof file, so that the check itself tells where it shows too few.
+fn lines_of_sixteen(heap: Global, bytes: &[u8]) -> Result<String, AllocError>
     ensures { IfOk result (λ s. string_bytes s ≡ hex_text bytes.now) }
 {
     bytes

@@ -2,7 +2,7 @@ use Rattle.std.proofs.Common.{◌≡◌, ◌+◌, ◌*◌, ◌/◌, ◌%◌, len
 use Rattle.std.proofs.lemmas.Result.{IfOk-weaker}
 use Rattle.report.specs.Text.{hex_line}
 use Rattle.report.proofs.Parts.{more_text, text_of_parts}
-use Rattle.report.proofs.dumps.hex_lines.Goals as goal
+use Rattle.report.proofs.dumps.lines_of_sixteen.Goals as goal
 
 pub returns : goal.returns
 returns c = IfOk-weaker c.try_collect.result _ _ (λ s h.
