@@ -1,5 +1,5 @@
 // What a sector and the map hold, line by line.
-#![tactic(auto, using(crate::proofs::Digits::decimal_base_ten, crate::proofs::Digits::padded_hex_byte, crate::proofs::Digits::padded_hex_word))]
+#![tactic(auto, using(crate::proofs::Digits::padded_hex_word))]
 
 ghost use Rattle.std.specs.Prelude.{◌≡◌, ◌*◌, ◌<◌, ◌≤◌, [], ◌∷◌, length, IfOk, string_bytes};
 ghost use Rattle.std.proofs.Math.Utf8.{encode};
